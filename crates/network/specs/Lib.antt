@@ -1,0 +1,4 @@
+pub mod Tables
+pub mod Tariffs
+pub mod Limits
+pub mod Net

@@ -1,0 +1,103 @@
+ghost use mathlib.Core.Path.{_≡_};
+ghost use denote.Ref.{now};
+ghost use Rattle.network.specs.Limits.{Counted, Spaced, Ranged, Rising, Joined, Roomy, Few, Proper};
+ghost use Rattle.network.specs.Tariffs.{tariff};
+ghost use Rattle.network.specs.Net.{net, value, numberOf, spanOf, tariffOf, converterOf};
+use super::Network;
+use super::counts::Counts;
+use super::span::Span;
+
+// What stands where a span does not carry a channel, or a node has no such converter.
+pub const ABSENT: u16 = 65535;
+
+impl<'s, 'c> Network<'s, 'c> {
+    // The network of what is told; nothing outside the limits is a network.
+    pub fn make(
+        counts: Counts,
+        spacing: u8,
+        numbers: [i16; 16],
+        ends: [Span; 256],
+        tariffs: &'s [u16],
+        converters: &'c [u16],
+    ) -> Network<'s, 'c>
+        requires counted { ⌜ Counted counts ⌝ }
+        requires spaced { ⌜ Spaced spacing ⌝ }
+        requires ranged { ⌜ Ranged counts numbers ⌝ }
+        requires rising { ⌜ Rising counts numbers ⌝ }
+        requires joined { ⌜ Joined counts ends ⌝ }
+        requires roomy { ⌜ Roomy counts (now tariffs) (now converters) ⌝ }
+        requires few { ⌜ Few counts (now converters) ⌝ }
+        requires proper { ⌜ Proper counts (now converters) ⌝ }
+        ensures is { λ r. ⌜ net r ≡ value counts spacing numbers ends (now (tariffs .entry)) (now (converters .entry)) ⌝ }
+        ensures tables { λ r. ⌜ (now (r .tariffs) ≡ now (tariffs .entry)) × (now (r .converters) ≡ now (converters .entry)) ⌝ }
+    {
+        Network {
+            counts,
+            spacing,
+            numbers,
+            ends,
+            tariffs,
+            converters,
+        }
+    }
+
+    pub fn counts(&self) -> Counts
+        ensures { λ r. ⌜ r ≡ net (now (self .entry)) .counts ⌝ }
+    {
+        self.counts
+    }
+
+    pub fn spacing(&self) -> u8
+        ensures { λ r. ⌜ r ≡ net (now (self .entry)) .spacing ⌝ }
+    {
+        self.spacing
+    }
+
+    // The number n of a channel.
+    pub fn number(&self, channel: usize) -> Option<i16>
+        ensures { λ r. ⌜ r ≡ numberOf (net (now (self .entry))) channel ⌝ }
+    {
+        if channel >= self.counts.channels {
+            return None;
+        }
+        Some(self.numbers[channel])
+    }
+
+    // The ends of a span.
+    pub fn span(&self, span: usize) -> Option<Span>
+        ensures { λ r. ⌜ r ≡ spanOf (net (now (self .entry))) span ⌝ }
+    {
+        if span >= self.counts.spans {
+            return None;
+        }
+        Some(self.ends[span])
+    }
+
+    // The tariff of a channel on a span, where the span carries it.
+    pub fn tariff(&self, span: usize, channel: usize) -> Option<u16>
+        ensures { λ r. ⌜ r ≡ tariffOf (net (now (self .entry))) span channel ⌝ }
+    {
+        if span >= self.counts.spans || channel >= self.counts.channels {
+            return None;
+        }
+        charged(self.tariffs[span * self.counts.channels + channel])
+    }
+
+    // The tariff of a converter at a node, where there is one.
+    pub fn converter(&self, node: usize, from: usize, to: usize) -> Option<u16>
+        ensures { λ r. ⌜ r ≡ converterOf (net (now (self .entry))) node from to ⌝ }
+    {
+        let channels = self.counts.channels;
+        if node >= self.counts.nodes || from >= channels || to >= channels {
+            return None;
+        }
+        charged(self.converters[(node * channels + from) * channels + to])
+    }
+}
+
+// What an entry of a table charges: nothing can be had where it is absent.
+fn charged(entry: u16) -> Option<u16>
+    ensures { λ r. ⌜ r ≡ tariff entry ⌝ }
+{
+    if entry == ABSENT { None } else { Some(entry) }
+}
