@@ -11,6 +11,9 @@ pub mod table;
 use counts::Counts;
 use span::Span;
 
+// What stands in a table where a span does not carry a channel, or a node has no such converter.
+pub const ABSENT: u16 = 65535;
+
 // A network over two tables of tariffs that the caller lends: one entry for each channel of each
 // span, and one for each node and pair of channels. 65,535 stands for none.
 #[derive(Clone, Copy)]

@@ -3,12 +3,10 @@ ghost use denote.Ref.{now};
 ghost use Rattle.network.specs.Limits.{Counted, Spaced, Ranged, Rising, Joined, Roomy, Few, Proper};
 ghost use Rattle.network.specs.Tariffs.{tariff};
 ghost use Rattle.network.specs.Net.{net, value, numberOf, spanOf, tariffOf, converterOf};
+use super::ABSENT;
 use super::Network;
 use super::counts::Counts;
 use super::span::Span;
-
-// What stands where a span does not carry a channel, or a node has no such converter.
-pub const ABSENT: u16 = 65535;
 
 impl<'s, 'c> Network<'s, 'c> {
     // The network of what is told; nothing outside the limits is a network.

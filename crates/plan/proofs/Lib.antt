@@ -1,0 +1,6 @@
+pub mod Parts
+pub mod Rows
+pub mod Pairs
+pub mod Heads
+pub mod Ranks
+pub mod Loads

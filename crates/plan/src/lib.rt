@@ -1,0 +1,6 @@
+//! The plan file: its header, its four sections and their records.
+mod checks;
+pub mod header;
+pub mod reader;
+pub mod record;
+pub mod window;
