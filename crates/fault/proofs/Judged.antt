@@ -30,7 +30,7 @@ first-inside f (x ∷ xs) =
     elim (x .sound) as (λ b. cond b (first (inside f xs)) (Some (f (x .fault))) ≡ mapped f (cond b (first xs) (Some (x .fault)))) [ true ↦ first-inside f xs | false ↦ refl ]
 
 -- a judgement that is sound leaves what comes after it
-cond-none : {F : Type 0} (b : Bool) (f : F) (r : Option F) → cond b r (Some f) ≡ None → (b ≡ true) × (r ≡ None)
+pub cond-none : {F : Type 0} (b : Bool) (f : F) (r : Option F) → cond b r (Some f) ≡ None → (b ≡ true) × (r ≡ None)
 cond-none true f r e = (refl, e)
 cond-none false f r e = let z : _≡_ {A = ℕ} 0 1 = cc in absurd (omega arith)
 

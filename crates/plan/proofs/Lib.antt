@@ -4,3 +4,6 @@ pub mod Pairs
 pub mod Heads
 pub mod Ranks
 pub mod Loads
+pub mod Marks
+pub mod Owed
+pub mod Told

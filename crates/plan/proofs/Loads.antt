@@ -21,7 +21,7 @@ use Rattle.network.specs.Limits.{Counted}
 use Rattle.network.specs.declared.counts.Counts.{Counts}
 use Rattle.plan.specs.declared.reader.Plan.{Plan}
 use Rattle.plan.specs.Header.{header, headerFaults, countsOf}
-use Rattle.plan.specs.Kept.{Told, Accepted}
+use Rattle.plan.specs.Kept.{Told, Fitted, Accepted}
 use Rattle.plan.specs.Plan.{sectionFaults, fileFaults, loadFaults, roomy}
 use Rattle.plan.proofs.Heads.{headed}
 
@@ -58,10 +58,11 @@ module _ (bs : List ℕ) (tariffs converters : ℕ) where
         ∙ cond-false _ _ _ (ap (λ m. roomy m tariffs converters) (sym counts-are) ∙ s .0)
         ∙ ap (λ x. Some (Book x)) (sym (s .1))
 
-    pub accepted : first (fileFaults bs) ≡ None → (x : Unit {0}) → _≡_ {A = Answer} (Ok x) (cond (roomy n tariffs converters) (Ok tt) (Err LoadTable)) → Accepted p bs tariffs converters
-    accepted e x r = record {
+    pub accepted : Fitted p → first (fileFaults bs) ≡ None → (x : Unit {0}) → _≡_ {A = Answer} (Ok x) (cond (roomy n tariffs converters) (Ok tt) (Err LoadTable)) → Accepted p bs tariffs converters
+    accepted f e x r = record {
       sound =
         append-none (inside File (fileFaults bs)) tables (inside-none File (fileFaults bs) e)
         ∙ cond-true _ _ _ (ap (λ m. roomy m tariffs converters) (sym counts-are) ∙ enough (roomy n tariffs converters) x r);
       told = t;
+      fitted = f;
     }

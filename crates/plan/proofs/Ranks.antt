@@ -27,7 +27,7 @@ module _ (bs : List ℕ) (h : Header) where
   bad-pair f e = append-some (pairsFaults bs h) (inside Record (recordFaults bs h)) f e
 
   -- the records of a plan are those that its bytes tell
-  rows-are : (p : Plan) → Told bs h p → rowsOf p ≡ recordFaults bs h
+  pub rows-are : (p : Plan) → Told bs h p → rowsOf p ≡ recordFaults bs h
   rows-are p t =
       λ k. rows (t .header k) (t .numbers .begins k) (t .numbers .holds k) (t .spans .begins k) (t .spans .holds k) (t .converters .begins k) (t .converters .holds k)
 

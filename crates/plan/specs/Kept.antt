@@ -48,3 +48,4 @@ rowsOf p =
 pub record Accepted (p : Plan) (bs : List ℕ) (tariffs converters : ℕ) : Type 0 where
   pub sound : first (loadFaults bs tariffs converters) ≡ None
   pub told : Told bs (header bs) p
+  pub fitted : Fitted p

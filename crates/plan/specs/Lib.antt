@@ -6,3 +6,4 @@ pub mod Sections
 pub mod Cuts
 pub mod Plan
 pub mod Kept
+pub mod Telling

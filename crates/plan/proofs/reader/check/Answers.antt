@@ -23,4 +23,4 @@ returns-in-Break-check-room c =
 pub returns : need.returns
 returns c =
     let t = c .in-Continue-plan .ensures tt in
-    accepted (c .args .bytes .now) (length (c .args .tariffs .now)) (length (c .args .converters .now)) (c .in-Continue-plan .plan) (c .counts .result) (t .1) (c .counts .ensures) (t .0) tt (c .in-Continue-check-room .ensures tt)
+    accepted (c .args .bytes .now) (length (c .args .tariffs .now)) (length (c .args .converters .now)) (c .in-Continue-plan .plan) (c .counts .result) (t .1) (c .counts .ensures) (t .2) (t .0) tt (c .in-Continue-check-room .ensures tt)

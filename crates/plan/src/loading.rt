@@ -1,0 +1,96 @@
+ghost use mathlib.Core.Path.{_≡_};
+ghost use mathlib.Core.List.{List};
+ghost use Prim.Native.Nat.{ℕ, _+_, _*_, _<_, _≤_};
+ghost use lib.IntN.{pos};
+ghost use lib.ListN.{length, replicate};
+ghost use Rattle.network.specs.Limits.{Counted, noSpan};
+ghost use Rattle.network.specs.Tables.{tabled};
+ghost use Rattle.network.specs.Tariffs.{absent, converterEntries};
+ghost use Rattle.network.specs.Net.{net};
+ghost use Rattle.plan.specs.Kept.{Accepted};
+ghost use Rattle.plan.specs.Plan.{readBy};
+ghost use Rattle.plan.specs.Records.{numberIn, spanIn, tariffIn, converterIn};
+ghost use Rattle.plan.specs.Telling.{place, listed, tells, tariffTable, converterTable};
+use super::reader::Plan;
+use super::record::Converter;
+use super::window::Window;
+use network::ABSENT;
+use network::Network;
+use network::counts::Counts;
+use network::span::Span;
+use network::table::fill;
+
+fn read_numbers(window: Window, count: usize) -> [i16; 16]
+    requires few { ⌜ count ≤ 16 ⌝ }
+    requires long { ⌜ length (now (window .bytes)) ≡ 2 * count ⌝ }
+    ensures { λ r. ⌜ r ≡ tabled count (numberIn (now (window .entry .bytes))) (replicate 16 (pos 0)) ⌝ }
+{
+    let mut numbers = [0i16; 16];
+    for i in 0..count {
+        numbers[i] = window.number(i);
+    }
+    numbers
+}
+
+fn read_ends(window: Window, count: usize) -> [Span; 256]
+    requires few { ⌜ count ≤ 256 ⌝ }
+    requires long { ⌜ length (now (window .bytes)) ≡ 2 * count ⌝ }
+    ensures { λ r. ⌜ r ≡ tabled count (spanIn (now (window .entry .bytes))) (replicate 256 noSpan) ⌝ }
+{
+    let mut ends = [Span { tail: 0, head: 0 }; 256];
+    for i in 0..count {
+        ends[i] = window.span(i);
+    }
+    ends
+}
+
+fn write_tariffs(window: Window, count: usize, table: &mut [u16])
+    requires room { ⌜ count ≤ length (now table) ⌝ }
+    requires long { ⌜ length (now (window .bytes)) ≡ 2 * count ⌝ }
+    ensures { λ _. ⌜ now (table .exit) ≡ tabled count (tariffIn (now (window .entry .bytes))) (now (table .entry)) ⌝ }
+{
+    for i in 0..count {
+        table[i] = window.tariff(i);
+    }
+}
+
+// Where a converter stands in the table.
+fn entry_of(counts: Counts, converter: Converter) -> usize
+    requires { ⌜ Counted counts ⌝ }
+    ensures { λ r. ⌜ r ≡ place counts converter ⌝ }
+{
+    let row = usize::from(converter.node) * counts.channels + usize::from(converter.from);
+    row * counts.channels + usize::from(converter.to)
+}
+
+fn write_converters(window: Window, count: usize, counts: Counts, table: &mut [u16])
+    requires counted { ⌜ Counted counts ⌝ }
+    requires room { ⌜ converterEntries counts ≤ length (now table) ⌝ }
+    requires long { ⌜ length (now (window .bytes)) ≡ 5 * count ⌝ }
+    requires placed { ⌜ ((i : ℕ) → i < count → place counts (converterIn (now (window .bytes)) i) < converterEntries counts) ⌝ }
+    ensures { λ _. ⌜ now (table .exit) ≡ tabled (converterEntries counts) (listed counts (converterIn (now (window .entry .bytes))) count) (now (table .entry)) ⌝ }
+{
+    fill(table, counts.nodes * counts.channels * counts.channels, ABSENT);
+    for i in 0..count {
+        let converter = window.converter(i);
+        let at = entry_of(counts, converter);
+        table[at] = converter.tariff;
+    }
+}
+
+impl Plan<'_> {
+    // The network of a plan that was accepted; its tariffs are written into the two tables.
+    pub fn load<'s, 'c>(self, tariffs: &'s mut [u16], converters: &'c mut [u16]) -> Network<'s, 'c>
+        requires { ⌜ ((bs : List ℕ) × Accepted self bs (length (now tariffs)) (length (now converters))) ⌝ }
+        ensures is { λ r. ⌜ net r ≡ tells (readBy (self .entry)) ⌝ }
+        ensures tables { λ r. ⌜ (now (r .tariffs) ≡ tariffTable (readBy (self .entry)) (now (tariffs .entry))) × (now (r .converters) ≡ converterTable (readBy (self .entry)) (now (converters .entry))) ⌝ }
+    {
+        let header = self.header;
+        let counts = header.counts();
+        let numbers = read_numbers(self.numbers, counts.channels);
+        let ends = read_ends(self.spans, counts.spans);
+        write_tariffs(self.tariffs, counts.spans * counts.channels, tariffs);
+        write_converters(self.converters, usize::from(header.converters), counts, converters);
+        Network::make(counts, header.spacing, numbers, ends, tariffs, converters)
+    }
+}
