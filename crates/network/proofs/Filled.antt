@@ -7,7 +7,7 @@ use lib.ListN.{length, getD, set, take, replicate, drop}
 use Rattle.std.specs.Iters.{counting}
 use Rattle.network.specs.Tables.{tabled}
 use Rattle.std.proofs.shelf.Counted.{length-map-counting, getD-map-counting, map-counting-more}
-use Rattle.std.proofs.shelf.Lists.{set-at, take-at, drop-more, replicate-more, append-assoc, length-replicate, length-append, length-drop, getD-append-left}
+use Rattle.std.proofs.shelf.Lists.{set-at, take-at, drop-at, drop-more, replicate-more, append-assoc, length-replicate, length-append, length-drop, getD-append-left}
 
 -- a front of i entries, and then what stood there: the next entry is written
 pub front-more : {A : Type 0} (front front′ old : List A) (i : ℕ) (v : A) → i < length old → length front ≡ i → front ++ v ∷ [] ≡ front′
@@ -41,3 +41,8 @@ getD-tabled n f old i d h =
 
 pub length-tabled : {A : Type 0} (n : ℕ) (f : ℕ → A) (old : List A) → n ≤ length old → length (tabled n f old) ≡ length old
 length-tabled n f old h = simp (length-append, length-map-counting, length-drop) (omega arith)
+
+-- to write the same entries again changes nothing
+pub tabled-again : {A : Type 0} (n : ℕ) (f : ℕ → A) (cur old : List A) → cur ≡ tabled n f old → cur ≡ tabled n f cur
+tabled-again n f cur old e =
+    e ∙ ap (λ l. map f (counting 0 n) ++ l) (sym (ap (drop n) e ∙ drop-at (map f (counting 0 n)) (drop n old) n (length-map-counting f 0 n)))

@@ -32,11 +32,11 @@ module _ (p : Plan) (n : Counts) (same : n ≡ countsOf (p .header)) (r : ℕ) (
   abbrev converter : ℕ → Converter
   converter = converterIn (now (p .converters .bytes))
 
-  pub tariffs-are : (old table : List ℕ) → table ≡ tabled (spanEntries n) charge old → table ≡ tariffTable (readBy p) old
-  tariffs-are old table e = e ∙ ap (λ (m : Counts). tabled (spanEntries m) charge old) same
+  pub tariffs-are : (old : List ℕ) → tabled (spanEntries n) charge old ≡ tariffTable (readBy p) old
+  tariffs-are old = ap (λ (m : Counts). tabled (spanEntries m) charge old) same
 
-  pub converters-are : (old table : List ℕ) → table ≡ tabled (converterEntries n) (listed n converter r) old → table ≡ converterTable (readBy p) old
-  converters-are old table e = e ∙ (λ k. tabled (converterEntries (same k)) (listed (same k) converter (all k)) old)
+  pub converters-are : (old : List ℕ) → tabled (converterEntries n) (listed n converter r) old ≡ converterTable (readBy p) old
+  converters-are old = λ k. tabled (converterEntries (same k)) (listed (same k) converter (all k)) old
 
   pub told-is : (numbers old-numbers : List ℤ) (ends old-ends : List Span) (tariffs old-tariffs converters old-converters : List ℕ)
       → numbers ≡ tabled (n .channels) number old-numbers → ends ≡ tabled (n .spans) span old-ends

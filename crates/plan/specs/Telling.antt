@@ -1,4 +1,5 @@
 -- The network that a plan tells.
+use mathlib.Core.Path.{_≡_}
 use mathlib.Core.Bool.{cond}
 use mathlib.Core.List.{List, map}
 use Prim.Native.Nat.{ℕ, zero, suc}
@@ -44,3 +45,7 @@ tariffTable p table = tabled (spanEntries (countsOf (p .header))) (tariffIn (p .
 abbrev pub converterTable : Read → List ℕ → List ℕ
 converterTable p table =
     tabled (converterEntries (countsOf (p .header))) (listed (countsOf (p .header)) (converterIn (p .converters)) (p .header .converters)) table
+
+-- the tables hold what loading writes: it would change nothing
+abbrev pub Loaded : Read → List ℕ → List ℕ → Type 0
+Loaded p tariffs converters = (tariffs ≡ tariffTable p tariffs) × (converters ≡ converterTable p converters)

@@ -10,7 +10,7 @@ ghost use Rattle.network.specs.Net.{net};
 ghost use Rattle.plan.specs.Kept.{Accepted};
 ghost use Rattle.plan.specs.Plan.{readBy};
 ghost use Rattle.plan.specs.Records.{numberIn, spanIn, tariffIn, converterIn};
-ghost use Rattle.plan.specs.Telling.{place, listed, tells, tariffTable, converterTable};
+ghost use Rattle.plan.specs.Telling.{place, listed, tells, tariffTable, converterTable, Loaded};
 use super::reader::Plan;
 use super::record::Converter;
 use super::window::Window;
@@ -79,18 +79,28 @@ fn write_converters(window: Window, count: usize, counts: Counts, table: &mut [u
 }
 
 impl Plan<'_> {
-    // The network of a plan that was accepted; its tariffs are written into the two tables.
-    pub fn load<'s, 'c>(self, tariffs: &'s mut [u16], converters: &'c mut [u16]) -> Network<'s, 'c>
+    // Writes the tariffs of an accepted plan into the two tables.
+    pub fn load(self, tariffs: &mut [u16], converters: &mut [u16])
         requires { ⌜ ((bs : List ℕ) × Accepted self bs (length (now tariffs)) (length (now converters))) ⌝ }
-        ensures is { λ r. ⌜ net r ≡ tells (readBy (self .entry)) ⌝ }
-        ensures tables { λ r. ⌜ (now (r .tariffs) ≡ tariffTable (readBy (self .entry)) (now (tariffs .entry))) × (now (r .converters) ≡ converterTable (readBy (self .entry)) (now (converters .entry))) ⌝ }
+        ensures tables { λ _. ⌜ (now (tariffs .exit) ≡ tariffTable (readBy (self .entry)) (now (tariffs .entry))) × (now (converters .exit) ≡ converterTable (readBy (self .entry)) (now (converters .entry))) ⌝ }
+        ensures loaded { λ _. ⌜ Loaded (readBy (self .entry)) (now (tariffs .exit)) (now (converters .exit)) ⌝ }
+    {
+        let header = self.header;
+        let counts = header.counts();
+        write_tariffs(self.tariffs, counts.spans * counts.channels, tariffs);
+        write_converters(self.converters, usize::from(header.converters), counts, converters);
+    }
+
+    // The network of an accepted plan, over the tables that it was loaded into.
+    pub fn network<'s, 'c>(self, tariffs: &'s [u16], converters: &'c [u16]) -> Network<'s, 'c>
+        requires accepted { ⌜ ((bs : List ℕ) × Accepted self bs (length (now tariffs)) (length (now converters))) ⌝ }
+        requires loaded { ⌜ Loaded (readBy self) (now tariffs) (now converters) ⌝ }
+        ensures { λ r. ⌜ net r ≡ tells (readBy (self .entry)) ⌝ }
     {
         let header = self.header;
         let counts = header.counts();
         let numbers = read_numbers(self.numbers, counts.channels);
         let ends = read_ends(self.spans, counts.spans);
-        write_tariffs(self.tariffs, counts.spans * counts.channels, tariffs);
-        write_converters(self.converters, usize::from(header.converters), counts, converters);
         Network::make(counts, header.spacing, numbers, ends, tariffs, converters)
     }
 }
