@@ -23,10 +23,6 @@ pub impl Fault for BookFault as BookFaultReport {
             BookFault::BookTable => 11,
             BookFault::NoSpan => 26,
         };
-        Report {
-            number,
-            place: 0,
-            layer: Layer::Book,
-        }
+        Report::new(number, 0, Layer::Book)
     }
 }

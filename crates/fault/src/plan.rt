@@ -82,21 +82,9 @@ pub impl Fault for RecordFault as RecordFaultReport {
     fn report(&self) -> Report {
         let layer = Layer::Record;
         match *self {
-            RecordFault::Channel { at } => Report {
-                number: 7,
-                place: at,
-                layer,
-            },
-            RecordFault::Span { at } => Report {
-                number: 8,
-                place: at,
-                layer,
-            },
-            RecordFault::Converter { at } => Report {
-                number: 9,
-                place: at,
-                layer,
-            },
+            RecordFault::Channel { at } => Report::new(7, at, layer),
+            RecordFault::Span { at } => Report::new(8, at, layer),
+            RecordFault::Converter { at } => Report::new(9, at, layer),
         }
     }
 }
@@ -107,21 +95,9 @@ pub impl Fault for SectionFault as SectionFaultReport {
     fn report(&self) -> Report {
         let layer = Layer::Section;
         match *self {
-            SectionFault::Early { at } => Report {
-                number: 4,
-                place: at,
-                layer,
-            },
-            SectionFault::Length { at } => Report {
-                number: 5,
-                place: at,
-                layer,
-            },
-            SectionFault::Beyond { at } => Report {
-                number: 6,
-                place: at,
-                layer,
-            },
+            SectionFault::Early { at } => Report::new(4, at, layer),
+            SectionFault::Length { at } => Report::new(5, at, layer),
+            SectionFault::Beyond { at } => Report::new(6, at, layer),
             SectionFault::Record(fault) => fault.report(),
         }
     }
@@ -133,21 +109,9 @@ pub impl Fault for FileFault as FileFaultReport {
     fn report(&self) -> Report {
         let layer = Layer::File;
         match *self {
-            FileFault::Size => Report {
-                number: 1,
-                place: 0,
-                layer,
-            },
-            FileFault::Version => Report {
-                number: 2,
-                place: 0,
-                layer,
-            },
-            FileFault::Value { at } => Report {
-                number: 3,
-                place: at,
-                layer,
-            },
+            FileFault::Size => Report::new(1, 0, layer),
+            FileFault::Version => Report::new(2, 0, layer),
+            FileFault::Value { at } => Report::new(3, at, layer),
             FileFault::Section(fault) => fault.report(),
         }
     }

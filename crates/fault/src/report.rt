@@ -1,4 +1,5 @@
 ghost use mathlib.Core.Path.{_≡_};
+ghost use Rattle.fault.specs.Reports.{report};
 ghost use Rattle.fault.specs.declared.report.Report.{Report};
 
 // Which part of the controller refuses.
@@ -18,6 +19,18 @@ pub struct Report {
     pub number: u8,
     pub place: usize,
     pub layer: Layer,
+}
+
+impl Report {
+    pub fn new(number: u8, place: usize, layer: Layer) -> Report
+        ensures { λ r. ⌜ r ≡ report number place layer ⌝ }
+    {
+        Report {
+            number,
+            place,
+            layer,
+        }
+    }
 }
 
 // A fault of one layer, which can be reported.

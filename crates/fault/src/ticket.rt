@@ -44,21 +44,9 @@ pub impl Fault for WordFault as WordFaultReport {
     fn report(&self) -> Report {
         let layer = Layer::Word;
         match *self {
-            WordFault::Space { at } => Report {
-                number: 13,
-                place: at,
-                layer,
-            },
-            WordFault::Foreign { at } => Report {
-                number: 14,
-                place: at,
-                layer,
-            },
-            WordFault::Large { at } => Report {
-                number: 15,
-                place: at,
-                layer,
-            },
+            WordFault::Space { at } => Report::new(13, at, layer),
+            WordFault::Foreign { at } => Report::new(14, at, layer),
+            WordFault::Large { at } => Report::new(15, at, layer),
         }
     }
 }
@@ -69,27 +57,11 @@ pub impl Fault for TicketFault as TicketFaultReport {
     fn report(&self) -> Report {
         let layer = Layer::Ticket;
         match *self {
-            TicketFault::Length => Report {
-                number: 12,
-                place: 0,
-                layer,
-            },
+            TicketFault::Length => Report::new(12, 0, layer),
             TicketFault::Word(fault) => fault.report(),
-            TicketFault::Verb { at } => Report {
-                number: 16,
-                place: at,
-                layer,
-            },
-            TicketFault::Count { at } => Report {
-                number: 17,
-                place: at,
-                layer,
-            },
-            TicketFault::Sort { at } => Report {
-                number: 18,
-                place: at,
-                layer,
-            },
+            TicketFault::Verb { at } => Report::new(16, at, layer),
+            TicketFault::Count { at } => Report::new(17, at, layer),
+            TicketFault::Sort { at } => Report::new(18, at, layer),
         }
     }
 }

@@ -1,7 +1,8 @@
 ghost use mathlib.Core.Path.{_≡_};
+ghost use Prim.Native.Nat.{_<_};
 ghost use denote.Ref.{now};
 ghost use Rattle.network.specs.Limits.{Counted, Spaced, Ranged, Rising, Joined, Roomy, Few, Proper};
-ghost use Rattle.network.specs.Tariffs.{tariff};
+ghost use Rattle.network.specs.Tariffs.{tariff, spanEntry, converterEntry};
 ghost use Rattle.network.specs.Net.{net, value, numberOf, spanOf, tariffOf, converterOf};
 use super::ABSENT;
 use super::Network;
@@ -78,7 +79,7 @@ impl<'s, 'c> Network<'s, 'c> {
         if span >= self.counts.spans || channel >= self.counts.channels {
             return None;
         }
-        charged(self.tariffs[span * self.counts.channels + channel])
+        charged(self.tariffs[span_entry(self.counts, span, channel)])
     }
 
     // The tariff of a converter at a node, where there is one.
@@ -89,8 +90,26 @@ impl<'s, 'c> Network<'s, 'c> {
         if node >= self.counts.nodes || from >= channels || to >= channels {
             return None;
         }
-        charged(self.converters[(node * channels + from) * channels + to])
+        charged(self.converters[converter_entry(self.counts, node, from, to)])
     }
+}
+
+// Where a channel of a span stands in the table of tariffs.
+fn span_entry(counts: Counts, span: usize, channel: usize) -> usize
+    requires counted { ⌜ Counted counts ⌝ }
+    requires within { ⌜ (span < counts .spans) × (channel < counts .channels) ⌝ }
+    ensures { λ r. ⌜ r ≡ spanEntry counts span channel ⌝ }
+{
+    span * counts.channels + channel
+}
+
+// Where a converter stands in the table of converters.
+fn converter_entry(counts: Counts, node: usize, from: usize, to: usize) -> usize
+    requires counted { ⌜ Counted counts ⌝ }
+    requires within { ⌜ (node < counts .nodes) × (from < counts .channels) × (to < counts .channels) ⌝ }
+    ensures { λ r. ⌜ r ≡ converterEntry counts node from to ⌝ }
+{
+    (node * counts.channels + from) * counts.channels + to
 }
 
 // What an entry of a table charges: nothing can be had where it is absent.

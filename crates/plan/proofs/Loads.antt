@@ -61,8 +61,8 @@ module _ (bs : List ℕ) (tariffs converters : ℕ) where
     pub accepted : Fitted p → first (fileFaults bs) ≡ None → (x : Unit {0}) → _≡_ {A = Answer} (Ok x) (cond (roomy n tariffs converters) (Ok tt) (Err LoadTable)) → Accepted p bs tariffs converters
     accepted f e x r = record {
       sound =
-        append-none (inside File (fileFaults bs)) tables (inside-none File (fileFaults bs) e)
-        ∙ cond-true _ _ _ (ap (λ m. roomy m tariffs converters) (sym counts-are) ∙ enough (roomy n tariffs converters) x r);
+          append-none (inside File (fileFaults bs)) tables (inside-none File (fileFaults bs) e)
+          ∙ cond-true _ _ _ (ap (λ m. roomy m tariffs converters) (sym counts-are) ∙ enough (roomy n tariffs converters) x r);
       told = t;
       fitted = f;
     }

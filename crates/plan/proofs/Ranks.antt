@@ -65,7 +65,7 @@ module _ (w : Plan) (n : Counts) (same : n ≡ countsOf (w .header)) (count : �
   unfolding rows
   rows-is =
       λ k. numberFaults (sym same k .channels) (w .numbers .start) (now (w .numbers .bytes))
-           ++ (spanFaults (sym same k) (w .spans .start) (now (w .spans .bytes)) ++ converterFaults (sym same k) (sym few k) (w .converters .start) (now (w .converters .bytes)))
+      ++ (spanFaults (sym same k) (w .spans .start) (now (w .spans .bytes)) ++ converterFaults (sym same k) (sym few k) (w .converters .start) (now (w .converters .bytes)))
 
   abbrev Answer : Type 0
   Answer = Result (Unit {0}) RecordFault

@@ -12,8 +12,8 @@ use Rattle.fault.specs.Judging.{Judgement, first, each, unless}
 use Rattle.fault.proofs.Judged.{each-at}
 use Rattle.plan.specs.Records.{previous}
 
-pub refused : {F : Type 0} (f : ℕ → Judgement F) (i n : ℕ) → i < n → first (each i f) ≡ None → f i .sound ≡ false → _≡_ {A = Result (Unit {0}) F} (Err (f i .fault)) (unless (first (each n f)) tt)
-refused f i n h e s = ap (λ r. unless r tt) (sym (each-at f i n h e s))
+pub refused : {F : Type 0} (f : ℕ → Judgement F) (i n : ℕ) (x : F) → x ≡ f i .fault → i < n → first (each i f) ≡ None → f i .sound ≡ false → _≡_ {A = Result (Unit {0}) F} (Err x) (unless (first (each n f)) tt)
+refused f i n x is h e s = ap (λ y. Err y) is ∙ ap (λ r. unless r tt) (sym (each-at f i n h e s))
 
 pub accepted : {F : Type 0} (f : ℕ → Judgement F) (i n : ℕ) → i ≡ n → first (each i f) ≡ None → _≡_ {A = Result (Unit {0}) F} (Ok tt) (unless (first (each n f)) tt)
 accepted f i n h e = ap (λ r. unless r tt) (sym (ap (λ m. first (each m f)) (sym h) ∙ e))

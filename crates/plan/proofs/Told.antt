@@ -49,6 +49,6 @@ module _ (p : Plan) (n : Counts) (same : n ≡ countsOf (p .header)) (r : ℕ) (
       let c′ = ap (take (spanEntries n)) c ∙ take-tabled (spanEntries n) charge ot in
       let d′ = ap (take (converterEntries n)) d ∙ take-tabled (converterEntries n) (listed n converter r) oc in
       let made : value n (p .header .spacing) numbers ends tariffs converters ≡ record { counts = n; spacing = p .header .spacing; numbers = map number (counting 0 (n .channels)); ends = map span (counting 0 (n .spans)); tariffs = map charge (counting 0 (spanEntries n)); converters = map (listed n converter r) (counting 0 (converterEntries n)) }
-          = λ k. record { counts = n; spacing = p .header .spacing; numbers = a′ k; ends = b′ k; tariffs = c′ k; converters = d′ k } in
+      = λ k. record { counts = n; spacing = p .header .spacing; numbers = a′ k; ends = b′ k; tariffs = c′ k; converters = d′ k } in
       made
       ∙ (λ k. record { counts = same k; spacing = p .header .spacing; numbers = map number (counting 0 (same k .channels)); ends = map span (counting 0 (same k .spans)); tariffs = map charge (counting 0 (spanEntries (same k))); converters = map (listed (same k) converter (all k)) (counting 0 (converterEntries (same k))) })

@@ -28,8 +28,8 @@ unfoldable pub pairsFaults : List ℕ → Header → List (Judgement SectionFaul
 pairsFaults bs h =
     pairFaults bs numbersPair 40 (numbersSize h)
     ++ (pairFaults bs spansPair (end bs numbersPair) (spansSize h)
-        ++ (pairFaults bs tariffsPair (end bs spansPair) (tariffsSize h)
-            ++ pairFaults bs convertersPair (end bs tariffsPair) (convertersSize h)))
+    ++ (pairFaults bs tariffsPair (end bs spansPair) (tariffsSize h)
+    ++ pairFaults bs convertersPair (end bs tariffsPair) (convertersSize h)))
 
 -- the records of the sections that begin at a, b and d
 unfoldable pub rows : Header → ℕ → List ℕ → ℕ → List ℕ → ℕ → List ℕ → List (Judgement RecordFault)

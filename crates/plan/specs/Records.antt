@@ -58,8 +58,8 @@ abbrev pub soundConverter : Counts → Option Converter → Converter → Bool
 soundConverter n last c =
     ltb (c .node) (n .nodes)
     && (ltb (c .from) (n .channels)
-        && (ltb (c .to) (n .channels)
-            && (not (eqb (c .from) (c .to)) && (not (eqb (c .tariff) absent) && after before last c))))
+    && (ltb (c .to) (n .channels)
+    && (not (eqb (c .from) (c .to)) && (not (eqb (c .tariff) absent) && after before last c))))
 
 -- the judgement of record i of a section that begins at a place
 abbrev pub numberRow : ℕ → List ℕ → ℕ → Judgement RecordFault

@@ -35,7 +35,7 @@ tells p = record {
   ends = map (spanIn (p .spans)) (counting 0 (p .header .spans));
   tariffs = map (tariffIn (p .tariffs)) (counting 0 (spanEntries (countsOf (p .header))));
   converters =
-    map (listed (countsOf (p .header)) (converterIn (p .converters)) (p .header .converters)) (counting 0 (converterEntries (countsOf (p .header))));
+      map (listed (countsOf (p .header)) (converterIn (p .converters)) (p .header .converters)) (counting 0 (converterEntries (countsOf (p .header))));
 }
 
 -- what loading writes into the two tables; entries beyond those needed stay

@@ -18,7 +18,9 @@ pub(crate) fn check_numbers(window: Window, count: usize) -> Result<(), RecordFa
     for i in 0..count {
         let n = window.number(i);
         if !record::sound_number(last, n) {
-            return Err(RecordFault::Channel { at: window.start + 2 * i });
+            return Err(RecordFault::Channel {
+                at: window.place(2, i),
+            });
         }
         last = Some(n);
     }
@@ -33,14 +35,20 @@ pub(crate) fn check_spans(window: Window, counts: Counts) -> Result<(), RecordFa
 {
     for i in 0..counts.spans {
         if !record::sound_span(counts, window.span(i)) {
-            return Err(RecordFault::Span { at: window.start + 2 * i });
+            return Err(RecordFault::Span {
+                at: window.place(2, i),
+            });
         }
     }
     Ok(())
 }
 
 // The converters.
-pub(crate) fn check_converters(window: Window, counts: Counts, count: usize) -> Result<(), RecordFault>
+pub(crate) fn check_converters(
+    window: Window,
+    counts: Counts,
+    count: usize,
+) -> Result<(), RecordFault>
     requires long { ⌜ length (now (window .bytes)) ≡ 5 * count ⌝ }
     requires low { ⌜ window .start + 5 * count ≤ 65536 ⌝ }
     ensures { λ r. ⌜ r ≡ unless (first (converterFaults counts count (window .entry .start) (now (window .entry .bytes)))) tt ⌝ }
@@ -49,7 +57,9 @@ pub(crate) fn check_converters(window: Window, counts: Counts, count: usize) -> 
     for i in 0..count {
         let converter = window.converter(i);
         if !record::sound_converter(counts, last, converter) {
-            return Err(RecordFault::Converter { at: window.start + 5 * i });
+            return Err(RecordFault::Converter {
+                at: window.place(5, i),
+            });
         }
         last = Some(converter);
     }

@@ -70,7 +70,11 @@ fn write_converters(window: Window, count: usize, counts: Counts, table: &mut [u
     requires placed { ⌜ ((i : ℕ) → i < count → place counts (converterIn (now (window .bytes)) i) < converterEntries counts) ⌝ }
     ensures { λ _. ⌜ now (table .exit) ≡ tabled (converterEntries counts) (listed counts (converterIn (now (window .entry .bytes))) count) (now (table .entry)) ⌝ }
 {
-    fill(table, counts.nodes * counts.channels * counts.channels, ABSENT);
+    fill(
+        table,
+        counts.nodes * counts.channels * counts.channels,
+        ABSENT,
+    );
     for i in 0..count {
         let converter = window.converter(i);
         let at = entry_of(counts, converter);
@@ -88,7 +92,12 @@ impl Plan<'_> {
         let header = self.header;
         let counts = header.counts();
         write_tariffs(self.tariffs, counts.spans * counts.channels, tariffs);
-        write_converters(self.converters, usize::from(header.converters), counts, converters);
+        write_converters(
+            self.converters,
+            usize::from(header.converters),
+            counts,
+            converters,
+        );
     }
 
     // The network of an accepted plan, over the tables that it was loaded into.

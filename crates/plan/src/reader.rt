@@ -18,14 +18,14 @@ use super::window::Window;
 use super::window::cut;
 use fault::book::BookFault;
 use fault::plan::FileFault;
-use fault::plan::LoadFault;
-use fault::plan::RecordFault;
-use fault::plan::SectionFault;
-use network::counts::Counts;
 use fault::plan::FileFaultFromSection;
-use fault::plan::SectionFaultFromRecord;
+use fault::plan::LoadFault;
 use fault::plan::LoadFaultFromBook;
 use fault::plan::LoadFaultFromFile;
+use fault::plan::RecordFault;
+use fault::plan::SectionFault;
+use fault::plan::SectionFaultFromRecord;
+use network::counts::Counts;
 
 // A plan over its bytes, its four sections as windows.
 #[derive(Clone, Copy)]
@@ -47,9 +47,25 @@ fn cut_sections<'p>(bytes: &'p [u8], header: Header) -> Result<Plan<'p>, Section
     let count = usize::from(header.spans);
     let numbers = cut(bytes, 8, 40, 2 * channels)?;
     let spans = cut(bytes, 16, numbers.start + numbers.bytes.len(), 2 * count)?;
-    let tariffs = cut(bytes, 24, spans.start + spans.bytes.len(), 2 * (count * channels))?;
-    let converters = cut(bytes, 32, tariffs.start + tariffs.bytes.len(), 5 * usize::from(header.converters))?;
-    Ok(Plan { header, numbers, spans, tariffs, converters })
+    let tariffs = cut(
+        bytes,
+        24,
+        spans.start + spans.bytes.len(),
+        2 * (count * channels),
+    )?;
+    let converters = cut(
+        bytes,
+        32,
+        tariffs.start + tariffs.bytes.len(),
+        5 * usize::from(header.converters),
+    )?;
+    Ok(Plan {
+        header,
+        numbers,
+        spans,
+        tariffs,
+        converters,
+    })
 }
 
 // The records of the sections: channel numbers, then spans, then converters.
@@ -96,7 +112,11 @@ fn check_room(counts: Counts, tariffs: &[u16], converters: &[u16]) -> Result<(),
 }
 
 // The first fault of a plan that is to be loaded into two tables, or the plan.
-pub fn check<'p>(bytes: &'p [u8], tariffs: &[u16], converters: &[u16]) -> Result<Plan<'p>, LoadFault>
+pub fn check<'p>(
+    bytes: &'p [u8],
+    tariffs: &[u16],
+    converters: &[u16],
+) -> Result<Plan<'p>, LoadFault>
     ensures { λ r. ⌜ Cases r (λ p. Accepted p (now (bytes .entry)) (length (now (tariffs .entry))) (length (now (converters .entry)))) (λ e. first (loadFaults (now (bytes .entry)) (length (now (tariffs .entry))) (length (now (converters .entry)))) ≡ Some e) ⌝ }
 {
     let plan = read_file(bytes)?;

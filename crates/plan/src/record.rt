@@ -1,7 +1,7 @@
 ghost use mathlib.Core.Path.{_≡_};
 ghost use Rattle.plan.specs.Records.{before, after, soundNumber, soundSpan, soundConverter};
-use network::counts::Counts;
 use network::ABSENT;
+use network::counts::Counts;
 use network::span::Span;
 
 // A converter of a node: it changes one channel into another.
@@ -28,7 +28,9 @@ pub(crate) fn sound_number(last: Option<i16>, n: i16) -> bool
 pub(crate) fn sound_span(counts: Counts, span: Span) -> bool
     ensures { λ r. ⌜ r ≡ soundSpan counts span ⌝ }
 {
-    usize::from(span.tail) < counts.nodes && usize::from(span.head) < counts.nodes && span.tail != span.head
+    usize::from(span.tail) < counts.nodes
+        && usize::from(span.head) < counts.nodes
+        && span.tail != span.head
 }
 
 // Converters rise by node, then by the channel from, then by the channel to.
@@ -37,7 +39,8 @@ fn rises(last: Option<Converter>, c: Converter) -> bool
 {
     match last {
         None => true,
-        Some(b) => b.node < c.node || b.node == c.node && (b.from < c.from || b.from == c.from && b.to < c.to),
+        Some(b) => b.node < c.node
+            || b.node == c.node && (b.from < c.from || b.from == c.from && b.to < c.to),
     }
 }
 
@@ -46,6 +49,8 @@ pub(crate) fn sound_converter(counts: Counts, last: Option<Converter>, c: Conver
     ensures { λ r. ⌜ r ≡ soundConverter counts last c ⌝ }
 {
     let channels = counts.channels;
-    let within = usize::from(c.node) < counts.nodes && usize::from(c.from) < channels && usize::from(c.to) < channels;
+    let within = usize::from(c.node) < counts.nodes
+        && usize::from(c.from) < channels
+        && usize::from(c.to) < channels;
     within && c.from != c.to && c.tariff != ABSENT && rises(last, c)
 }

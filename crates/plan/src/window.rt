@@ -27,7 +27,12 @@ fn wide_at(bytes: &[u8], at: usize) -> u32
 }
 
 // The section that a pair of the header tells, which begins at a floor or later.
-pub(crate) fn cut<'p>(bytes: &'p [u8], pair: usize, floor: usize, size: usize) -> Result<Window<'p>, SectionFault>
+pub(crate) fn cut<'p>(
+    bytes: &'p [u8],
+    pair: usize,
+    floor: usize,
+    size: usize,
+) -> Result<Window<'p>, SectionFault>
     requires { ⌜ pair + 7 < length (now bytes) ⌝ }
     ensures { λ r. ⌜ Cases r (λ w. Cut (now (bytes .entry)) pair floor size w) (λ e. first (pairFaults (now (bytes .entry)) pair floor size) ≡ Some e) ⌝ }
 {
@@ -44,10 +49,21 @@ pub(crate) fn cut<'p>(bytes: &'p [u8], pair: usize, floor: usize, size: usize) -
     if end > bytes.len() {
         return Err(SectionFault::Beyond { at: pair });
     }
-    Ok(Window { bytes: &bytes[start..end], start })
+    Ok(Window {
+        bytes: &bytes[start..end],
+        start,
+    })
 }
 
 impl Window<'_> {
+    // The place of the first byte of record i, where records have `size` bytes.
+    pub(crate) fn place(&self, size: usize, i: usize) -> usize
+        requires { ⌜ now self .start + size * i ≤ 65536 ⌝ }
+        ensures { λ r. ⌜ r ≡ now (self .entry) .start + size * i ⌝ }
+    {
+        self.start + size * i
+    }
+
     // Channel number i.
     pub(crate) fn number(&self, i: usize) -> i16
         requires { ⌜ 2 * i + 1 < length (now (now self .bytes)) ⌝ }
@@ -62,7 +78,10 @@ impl Window<'_> {
         ensures { λ r. ⌜ r ≡ spanIn (now (now (self .entry) .bytes)) i ⌝ }
     {
         match &self.bytes[2 * i..2 * i + 2] {
-            [tail, head] => Span { tail: *tail, head: *head },
+            [tail, head] => Span {
+                tail: *tail,
+                head: *head,
+            },
             _ => unreachable(),
         }
     }

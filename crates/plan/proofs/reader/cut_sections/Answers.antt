@@ -32,7 +32,7 @@ returns-in-Break-spans c =
     let a = c .in-Continue-numbers .ensures tt in
     rw (p .1, p .2)
     (from-second bs h (at-pair bs numbersPair 40 40 _ _ None refl s (a .sound)) e
-     (at-pair bs spansPair _ (end bs numbersPair) _ _ (Some e) (a .closes) u (c .in-Break-spans .ensures tt)))
+    (at-pair bs spansPair _ (end bs numbersPair) _ _ (Some e) (a .closes) u (c .in-Break-spans .ensures tt)))
 
 pub returns-in-Break-tariffs : need.returns-in-Break-tariffs
 returns-in-Break-tariffs c =
@@ -47,7 +47,7 @@ returns-in-Break-tariffs c =
     let b = c .in-Continue-spans .ensures tt in
     rw (p .1, p .2)
     (from-third bs h (at-pair bs numbersPair 40 40 _ _ None refl s (a .sound)) (at-pair bs spansPair _ (end bs numbersPair) _ _ None (a .closes) u (b .sound)) e
-     (at-pair bs tariffsPair _ (end bs spansPair) _ _ (Some e) (b .closes) v (c .in-Break-tariffs .ensures tt)))
+    (at-pair bs tariffsPair _ (end bs spansPair) _ _ (Some e) (b .closes) v (c .in-Break-tariffs .ensures tt)))
 
 pub returns-in-Break-converters : need.returns-in-Break-converters
 returns-in-Break-converters c =
@@ -64,8 +64,8 @@ returns-in-Break-converters c =
     let d = c .in-Continue-tariffs .ensures tt in
     rw (p .1, p .2)
     (from-fourth bs h (at-pair bs numbersPair 40 40 _ _ None refl s (a .sound)) (at-pair bs spansPair _ (end bs numbersPair) _ _ None (a .closes) u (b .sound))
-     (at-pair bs tariffsPair _ (end bs spansPair) _ _ None (b .closes) v (d .sound)) (Some e)
-     (at-pair bs convertersPair _ (end bs tariffsPair) _ _ (Some e) (d .closes) w (c .in-Break-converters .ensures tt)))
+    (at-pair bs tariffsPair _ (end bs spansPair) _ _ None (b .closes) v (d .sound)) (Some e)
+    (at-pair bs convertersPair _ (end bs tariffsPair) _ _ (Some e) (d .closes) w (c .in-Break-converters .ensures tt)))
 
 pub returns : need.returns
 returns c =
@@ -79,11 +79,10 @@ returns c =
     let a = c .in-Continue-numbers .ensures tt in
     let b = c .in-Continue-spans .ensures tt in
     let d = c .in-Continue-tariffs .ensures tt in
-    let f = c .in-Continue-converters .ensures tt in
-    (
+    let f = c .in-Continue-converters .ensures tt in (
       from-fourth bs h (at-pair bs numbersPair 40 40 _ _ None refl s (a .sound)) (at-pair bs spansPair _ (end bs numbersPair) _ _ None (a .closes) u (b .sound))
-      (at-pair bs tariffsPair _ (end bs spansPair) _ _ None (b .closes) v (d .sound)) None
-      (at-pair bs convertersPair _ (end bs tariffsPair) _ _ None (d .closes) w (f .sound)),
+          (at-pair bs tariffsPair _ (end bs spansPair) _ _ None (b .closes) v (d .sound)) None
+          (at-pair bs convertersPair _ (end bs tariffsPair) _ _ None (d .closes) w (f .sound)),
       record { header = refl; numbers = shown a; spans = shown b; tariffs = shown d; converters = shown f },
       record { numbers = sized _ l s a; spans = sized _ l u b; tariffs = sized _ l v d; converters = sized _ l w f },
     )

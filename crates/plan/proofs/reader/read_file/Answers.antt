@@ -18,8 +18,7 @@ pub returns : need.returns
 returns c =
     let bs = c .args .bytes .now in
     let h = c .in-Continue-header .ensures tt in
-    let t = c .in-Continue-plan .ensures tt in
-    (
+    let t = c .in-Continue-plan .ensures tt in (
       good-file bs (h .0) (ap (λ (x : Header). first (sectionFaults bs x)) (sym (h .1)) ∙ t .0),
       subst (λ (x : Header). Told bs x (c .in-Continue-plan .plan)) (h .1) (t .1),
       t .2,
