@@ -7,3 +7,4 @@ pub mod Loads
 pub mod Marks
 pub mod Owed
 pub mod Told
+pub mod Outside

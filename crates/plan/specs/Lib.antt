@@ -7,3 +7,4 @@ pub mod Cuts
 pub mod Plan
 pub mod Kept
 pub mod Telling
+pub mod Unread

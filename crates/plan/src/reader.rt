@@ -8,6 +8,7 @@ ghost use Rattle.network.specs.Limits.{Counted};
 ghost use Rattle.plan.specs.Header.{header as headerOf, headerFaults};
 ghost use Rattle.plan.specs.Kept.{Told, Fitted, Accepted, rowsOf};
 ghost use Rattle.plan.specs.Plan.{pairsFaults, sectionFaults, fileFaults, loadFaults, roomy};
+ghost use Rattle.plan.specs.Unread.{Unread};
 ghost use Rattle.std.specs.Results.{Cases};
 ghost use Rattle.std.specs.declared.result.Result.the-variants.{Ok, Err};
 ghost use Rattle.std.specs.declared.option.Option.the-variants.{Some, None};
@@ -117,7 +118,8 @@ pub fn check<'p>(
     tariffs: &[u16],
     converters: &[u16],
 ) -> Result<Plan<'p>, LoadFault>
-    ensures { λ r. ⌜ Cases r (λ p. Accepted p (now (bytes .entry)) (length (now (tariffs .entry))) (length (now (converters .entry)))) (λ e. first (loadFaults (now (bytes .entry)) (length (now (tariffs .entry))) (length (now (converters .entry)))) ≡ Some e) ⌝ }
+    ensures answer { λ r. ⌜ Cases r (λ p. Accepted p (now (bytes .entry)) (length (now (tariffs .entry))) (length (now (converters .entry)))) (λ e. first (loadFaults (now (bytes .entry)) (length (now (tariffs .entry))) (length (now (converters .entry)))) ≡ Some e) ⌝ }
+    ensures unread { λ _. ⌜ Unread ⌝ }
 {
     let plan = read_file(bytes)?;
     check_room(plan.header.counts(), tariffs, converters)?;

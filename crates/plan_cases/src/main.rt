@@ -111,7 +111,12 @@ fn layer_name(layer: Layer) -> &'static str {
     }
 }
 
-fn judge<W: Write>(out: &mut W, bytes: &[u8], tariffs: &mut [u16], converters: &mut [u16]) -> io::Result<()> {
+fn judge<W: Write>(
+    out: &mut W,
+    bytes: &[u8],
+    tariffs: &mut [u16],
+    converters: &mut [u16],
+) -> io::Result<()> {
     let plan = match check(bytes, tariffs, converters) {
         Ok(plan) => plan,
         Err(fault) => {
@@ -133,7 +138,10 @@ fn judge<W: Write>(out: &mut W, bytes: &[u8], tariffs: &mut [u16], converters: &
     let digest = digest_of(&network);
     let left = stale(tariffs);
     let beyond = stale(converters);
-    writeln!(out, "OK {nodes} {spans} {channels} {spacing} {digest:08X} {left} {beyond}")
+    writeln!(
+        out,
+        "OK {nodes} {spans} {channels} {spacing} {digest:08X} {left} {beyond}"
+    )
 }
 
 fn number(text: Option<&str>) -> usize {
@@ -152,7 +160,12 @@ fn run<W: Write>(out: &mut W, heap: Global, line: &str) -> Result<(), AnyError> 
     let bytes = bytes_of(heap, hex.as_bytes(), zeros)?;
     let mut tariffs = vec![in heap; STALE; tariffs]?;
     let mut converters = vec![in heap; STALE; converters]?;
-    judge(out, bytes.as_slice(), tariffs.as_mut_slice(), converters.as_mut_slice())?;
+    judge(
+        out,
+        bytes.as_slice(),
+        tariffs.as_mut_slice(),
+        converters.as_mut_slice(),
+    )?;
     Ok(())
 }
 
