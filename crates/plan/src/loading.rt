@@ -4,7 +4,7 @@ ghost use Prim.Native.Nat.{ℕ, _+_, _*_, _<_, _≤_};
 ghost use lib.IntN.{pos};
 ghost use lib.ListN.{length, replicate};
 ghost use Rattle.network.specs.Limits.{Counted, noSpan};
-ghost use Rattle.network.specs.Tables.{tabled};
+ghost use Rattle.network.specs.Tables.{filled, tabled};
 ghost use Rattle.network.specs.Tariffs.{absent, converterEntries};
 ghost use Rattle.network.specs.Net.{net};
 ghost use Rattle.plan.specs.Kept.{Accepted};
@@ -63,6 +63,15 @@ fn entry_of(counts: Counts, converter: Converter) -> usize
     row * counts.channels + usize::from(converter.to)
 }
 
+// No converter anywhere.
+fn clear_converters(counts: Counts, table: &mut [u16])
+    requires { ⌜ Counted counts ⌝ }
+    ensures { λ _. ⌜ now (table .exit) ≡ filled (converterEntries counts) absent (now (table .entry)) ⌝ }
+{
+    let entries = counts.nodes * counts.channels * counts.channels;
+    fill(table, entries, ABSENT);
+}
+
 fn write_converters(window: Window, count: usize, counts: Counts, table: &mut [u16])
     requires counted { ⌜ Counted counts ⌝ }
     requires room { ⌜ converterEntries counts ≤ length (now table) ⌝ }
@@ -70,11 +79,7 @@ fn write_converters(window: Window, count: usize, counts: Counts, table: &mut [u
     requires placed { ⌜ ((i : ℕ) → i < count → place counts (converterIn (now (window .bytes)) i) < converterEntries counts) ⌝ }
     ensures { λ _. ⌜ now (table .exit) ≡ tabled (converterEntries counts) (listed counts (converterIn (now (window .entry .bytes))) count) (now (table .entry)) ⌝ }
 {
-    fill(
-        table,
-        counts.nodes * counts.channels * counts.channels,
-        ABSENT,
-    );
+    clear_converters(counts, table);
     for i in 0..count {
         let converter = window.converter(i);
         let at = entry_of(counts, converter);

@@ -19,11 +19,11 @@ pub index-table-at : need.index-table-at
 index-table-at c = omega (arith, within c, c .pre .room)
 
 pub loop-i-holds : need.loop-i-holds
-loop-i-holds c = marks-none (converterEntries (c .args .counts)) (c .fill .last .table) (c .args .table .now) (c .fill .ensures) (c .pre .room)
+loop-i-holds c = marks-none (converterEntries (c .args .counts)) (c .clear-converters .last .table) (c .args .table .now) (c .clear-converters .ensures) (c .pre .room)
 
 pub loop-i-again : need.loop-i-again
 loop-i-again c =
-    marks-more (c .args .counts) (converterIn (c .args .window .bytes .now)) (c .loop-i .i) (c .entry-of-at .result) _ (c .loop-i .table) (c .fill .last .table) (c .loop-i .inv)
+    marks-more (c .args .counts) (converterIn (c .args .window .bytes .now)) (c .loop-i .i) (c .entry-of-at .result) _ (c .loop-i .table) (c .clear-converters .last .table) (c .loop-i .inv)
     (c .entry-of-at .ensures ∙ ap (place (c .args .counts)) (c .converter-converter .ensures)) (within c) (ap (λ (x : Converter). x .tariff) (c .converter-converter .ensures))
 
 pub returns : need.returns
@@ -32,5 +32,5 @@ returns c =
     let f = converterIn (c .args .window .bytes .now) in
     let end : c .loop-i .i ≡ c .args .count = omega arith in
     c .loop-i .inv
-    ∙ marks-all (converterEntries n) (listed n f (c .loop-i .i)) (c .fill .last .table) (c .args .table .now) (c .fill .ensures) (c .pre .room)
+    ∙ marks-all (converterEntries n) (listed n f (c .loop-i .i)) (c .clear-converters .last .table) (c .args .table .now) (c .clear-converters .ensures) (c .pre .room)
     ∙ ap (λ r. tabled (converterEntries n) (listed n f r) (c .args .table .now)) end
