@@ -1,0 +1,5 @@
+pub mod Replies
+pub mod Holding
+pub mod Serving
+pub mod Feeding
+pub mod Inputs

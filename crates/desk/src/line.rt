@@ -1,0 +1,14 @@
+ghost use Prim.Native.Nat.{_≤_};
+
+mod holding;
+
+// How much of a line is kept: one byte more than a ticket has, which tells that it is too long.
+pub const KEPT: usize = 81;
+
+// The first bytes of a line; those past the first 81 are not kept.
+#[derive(Clone, Copy)]
+pub struct Line {
+    bytes: [u8; KEPT],
+    len: usize,
+    ghost few: { len ≤ 81 },
+}
