@@ -50,6 +50,45 @@ module _ (bs : List ℕ) (h : Header) where
   unfolding pairsFaults
   from-fourth a b c r p = append-none one (two ++ (three ++ four)) a ∙ append-none two (three ++ four) b ∙ append-none three four c ∙ p
 
+-- the same, by the windows that were cut, with the counts as the code has them
+module _ (bs : List ℕ) (h : Header) (k m r : ℕ) (channels : k ≡ h .channels) (spans : m ≡ h .spans) (converters : r ≡ h .converters) where
+  abbrev after : Window → ℕ
+  after w = w .start + length (now (w .bytes))
+
+  size-two : 2 * m ≡ spansSize h
+  size-two = ap (λ n. 2 * n) spans
+
+  size-three : 2 * (m * k) ≡ tariffsSize h
+  size-three = λ i. 2 * (spans i * channels i)
+
+  size-four : 5 * r ≡ convertersSize h
+  size-four = ap (λ n. 5 * n) converters
+
+  pub bad-one : (e : SectionFault) → first (pairFaults bs numbersPair 40 (2 * k)) ≡ Some e → first (pairsFaults bs h) ≡ Some e
+  bad-one e p = from-first bs h e (at-pair bs numbersPair 40 40 (2 * k) (numbersSize h) (Some e) refl (ap (λ n. 2 * n) channels) p)
+
+  module _ (w : Window) (a : Cut bs numbersPair 40 (2 * k) w) where
+    ok-one : first (one bs h) ≡ None
+    ok-one = at-pair bs numbersPair 40 40 (2 * k) (numbersSize h) None refl (ap (λ n. 2 * n) channels) (a .sound)
+
+    pub bad-two : (e : SectionFault) → first (pairFaults bs spansPair (after w) (2 * m)) ≡ Some e → first (pairsFaults bs h) ≡ Some e
+    bad-two e p = from-second bs h ok-one e (at-pair bs spansPair (after w) (end bs numbersPair) (2 * m) (spansSize h) (Some e) (a .closes) size-two p)
+
+    module _ (x : Window) (b : Cut bs spansPair (after w) (2 * m) x) where
+      ok-two : first (two bs h) ≡ None
+      ok-two = at-pair bs spansPair (after w) (end bs numbersPair) (2 * m) (spansSize h) None (a .closes) size-two (b .sound)
+
+      pub bad-three : (e : SectionFault) → first (pairFaults bs tariffsPair (after x) (2 * (m * k))) ≡ Some e → first (pairsFaults bs h) ≡ Some e
+      bad-three e p =
+          from-third bs h ok-one ok-two e (at-pair bs tariffsPair (after x) (end bs spansPair) (2 * (m * k)) (tariffsSize h) (Some e) (b .closes) size-three p)
+
+      module _ (y : Window) (c : Cut bs tariffsPair (after x) (2 * (m * k)) y) where
+        -- the verdict of the last pair is that of them all
+        pub last-pair : (o : Option SectionFault) → first (pairFaults bs convertersPair (after y) (5 * r)) ≡ o → first (pairsFaults bs h) ≡ o
+        last-pair o p =
+            from-fourth bs h ok-one ok-two (at-pair bs tariffsPair (after x) (end bs spansPair) (2 * (m * k)) (tariffsSize h) None (b .closes) size-three (c .sound)) o
+            (at-pair bs convertersPair (after y) (end bs tariffsPair) (5 * r) (convertersSize h) o (c .closes) size-four p)
+
 pub shown : {bs : List ℕ} {pair floor size : ℕ} {w : Window} → Cut bs pair floor size w → Shows bs pair w
 shown c = record { begins = c .begins; holds = c .holds }
 
