@@ -52,11 +52,9 @@ split-at-tens = record {
 module _ (n : Counts) where
   -- what is kept of a line is answered as the whole line
   replied-kept : (p : List ℕ) → replied n (kept p) ≡ replied n p
-  unfolding replyTo
   replied-kept p = ap (λ c. text (replyOf (served n c)) ++ 10 ∷ []) (long-line p)
 
   after-kept : (p : List ℕ) (t : Tables) → afterLine n (kept p) t ≡ afterLine n p t
-  unfolding afterLine
   after-kept p t = ap (λ c. servedAfter n c t) (long-line p)
 
   -- a line that has begun

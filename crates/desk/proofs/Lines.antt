@@ -10,11 +10,11 @@ use Rattle.std.proofs.shelf.Tests.{cases-lt}
 use Rattle.desk.specs.Holding.{kept}
 
 -- a byte for which there is room
-pub room-for : (bytes : List ℕ) (n b : ℕ) → length bytes ≡ 81 → n < 81 → take (n + 1) (set bytes n b) ≡ kept (take n bytes ++ b ∷ [])
-room-for bytes n b long h =
+pub room-for : (bytes bytes′ : List ℕ) (n n′ b : ℕ) → length bytes ≡ 81 → n < 81 → bytes′ ≡ set bytes n b → n′ ≡ n + 1 → take n′ bytes′ ≡ kept (take n bytes ++ b ∷ [])
+room-for bytes bytes′ n n′ b long h e f =
     let l = length-take-le n bytes (omega arith) in
     let p = length-push (take n bytes) b in
-    take-more-set bytes n b (omega arith) ∙ sym (take-all 81 (take n bytes ++ b ∷ []) (omega arith))
+    (λ k. take (f k) (e k)) ∙ take-more-set bytes n b (omega arith) ∙ sym (take-all 81 (take n bytes ++ b ∷ []) (omega arith))
 
 -- a byte past the first 81
 pub no-room : (bytes : List ℕ) (n b : ℕ) → length bytes ≡ 81 → 81 ≤ n → n ≤ 81 → take n bytes ≡ kept (take n bytes ++ b ∷ [])

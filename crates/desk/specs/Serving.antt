@@ -45,14 +45,17 @@ replyOf (Ok r) = r
 replyOf (Err f) = reply.No (ofDesk f)
 
 -- the reply to a line
-unfoldable pub replyTo : Counts → List ℕ → Reply
+abbrev pub replyTo : Counts → List ℕ → Reply
 replyTo n line = replyOf (served n (ticketOf line))
 
 -- the tables after a line
-unfoldable pub afterLine : Counts → List ℕ → Tables → Tables
+abbrev pub afterLine : Counts → List ℕ → Tables → Tables
 afterLine n line t = servedAfter n (ticketOf line) t
 
--- a reply by which nothing is changed
+-- a refusal changes nothing
 abbrev pub Unchanged : Reply → Tables → Tables → Type 0
 Unchanged (reply.Shut span) t t′ = Unit {0}
 Unchanged (reply.No r) t t′ = t′ ≡ t
+
+abbrev pub RefusalsChangeNothing : Type 0
+RefusalsChangeNothing = (n : Counts) (line : List ℕ) (t : Tables) → Unchanged (replyTo n line) t (afterLine n line t)

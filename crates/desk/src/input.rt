@@ -5,7 +5,6 @@ ghost use Rattle.std.specs.Vec.{made};
 ghost use Rattle.book.specs.State.{tables, Kept};
 ghost use Rattle.desk.specs.Feeding.{deskOf, turned, replied, next, says, fed, said, InPart, ended, saidLast};
 ghost use Rattle.desk.specs.Holding.{held};
-ghost use Rattle.desk.specs.Inputs.{AnsweredByLines, SplitAtTens};
 use super::line::Line;
 use super::reply::ReplyDisplay;
 use super::serving::answer;
@@ -68,8 +67,6 @@ pub fn finish(book: &mut Book<'_, '_, '_>, line: &mut Line, out: &mut String) ->
     ensures tables { λ _. ⌜ tables (now (book .exit)) ≡ ended (now (book .entry) .counts) (deskOf (now (book .entry)) (now (line .entry))) .tables ⌝ }
     ensures desk { λ r. ⌜ made r (λ _. deskOf (now (book .exit)) (now (line .exit)) ≡ ended (now (book .entry) .counts) (deskOf (now (book .entry)) (now (line .entry)))) ⌝ }
     ensures out { λ r. ⌜ made r (λ _. string-bytes (now (out .exit)) ≡ string-bytes (now (out .entry)) ++ saidLast (now (book .entry) .counts) (deskOf (now (book .entry)) (now (line .entry)))) ⌝ }
-    ensures whole { λ _. ⌜ AnsweredByLines ⌝ }
-    ensures lines { λ _. ⌜ SplitAtTens ⌝ }
 {
     if line.is_empty() {
         return Ok(());

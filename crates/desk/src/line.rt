@@ -1,4 +1,6 @@
+ghost use mathlib.Core.Path.{_≡_};
 ghost use Prim.Native.Nat.{_≤_};
+ghost use lib.ListN.{length};
 
 mod holding;
 
@@ -10,5 +12,6 @@ pub const KEPT: usize = 81;
 pub struct Line {
     bytes: [u8; KEPT],
     len: usize,
+    ghost long: { length bytes ≡ 81 },
     ghost few: { len ≤ 81 },
 }

@@ -1,7 +1,7 @@
 ghost use mathlib.Core.Path.{_≡_};
 ghost use Rattle.book.specs.State.{tables, Kept};
 ghost use Rattle.ticket.specs.Tickets.{ticketOf};
-ghost use Rattle.desk.specs.Serving.{served, servedAfter, replyTo, afterLine, Unchanged};
+ghost use Rattle.desk.specs.Serving.{served, servedAfter, replyTo, afterLine};
 use super::fault::DeskFault;
 use super::fault::DeskFaultFromBook;
 use super::fault::DeskFaultFromTicket;
@@ -26,12 +26,11 @@ fn serve(book: &mut Book<'_, '_, '_>, line: &[u8]) -> Result<Reply, DeskFault>
     }
 }
 
-// The reply to a line of any bytes; a refusal changes nothing.
+// The reply to a line of any bytes and any length.
 pub fn answer(book: &mut Book<'_, '_, '_>, line: &[u8]) -> Reply
     ensures kept { λ _. ⌜ Kept (now (book .entry)) (now (book .exit)) ⌝ }
     ensures reply { λ r. ⌜ r ≡ replyTo (now (book .entry) .counts) (now (line .entry)) ⌝ }
     ensures tables { λ _. ⌜ tables (now (book .exit)) ≡ afterLine (now (book .entry) .counts) (now (line .entry)) (tables (now (book .entry))) ⌝ }
-    ensures refused { λ r. ⌜ Unchanged r (tables (now (book .entry))) (tables (now (book .exit))) ⌝ }
 {
     match serve(book, line) {
         Ok(reply) => reply,

@@ -2,8 +2,13 @@ use borrow.Author.Needs.{needs}
 use Rattle.desk.proofs.Lines.{room-for, no-room}
 use Rattle.desk.proofs.line.Line.push.Needs as need
 
-pub returns-then-self-lt-KEPT : need.returns-then-self-lt-KEPT
-returns-then-self-lt-KEPT c = room-for (c .args .self .now .bytes) (c .args .self .now .len) (c .args .byte) (search needs) (search needs)
+pub returns-then-has-room : need.returns-then-has-room
+returns-then-has-room c =
+    let line = c .args .self .now in
+    let after = c .keep .last .self in
+    room-for (line .bytes) (after .bytes) (line .len) (after .len) (c .args .byte) (line .long) (search needs) (c .keep .ensures .bytes) (c .keep .ensures .len)
 
-pub returns-else-self-lt-KEPT : need.returns-else-self-lt-KEPT
-returns-else-self-lt-KEPT c = no-room (c .args .self .now .bytes) (c .args .self .now .len) (c .args .byte) (search needs) (search needs) (search needs)
+pub returns-else-has-room : need.returns-else-has-room
+returns-else-has-room c =
+    let line = c .args .self .now in
+    no-room (line .bytes) (line .len) (c .args .byte) (line .long) (search needs) (line .few)
