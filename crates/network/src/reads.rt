@@ -1,5 +1,6 @@
 ghost use mathlib.Core.Path.{_≡_};
 ghost use Prim.Native.Nat.{_<_};
+ghost use lib.Dec.{ltb};
 ghost use denote.Ref.{now};
 ghost use Rattle.network.specs.Limits.{Counted, Spaced, Ranged, Rising, Joined, Roomy, Few, Proper};
 ghost use Rattle.network.specs.Tariffs.{tariff, spanEntry, converterEntry};
@@ -52,11 +53,29 @@ impl<'s, 'c> Network<'s, 'c> {
         self.spacing
     }
 
+    fn has_node(&self, node: usize) -> bool
+        ensures { λ r. ⌜ r ≡ ltb node (now (self .entry) .counts .nodes) ⌝ }
+    {
+        node < self.counts.nodes
+    }
+
+    fn has_span(&self, span: usize) -> bool
+        ensures { λ r. ⌜ r ≡ ltb span (now (self .entry) .counts .spans) ⌝ }
+    {
+        span < self.counts.spans
+    }
+
+    fn has_channel(&self, channel: usize) -> bool
+        ensures { λ r. ⌜ r ≡ ltb channel (now (self .entry) .counts .channels) ⌝ }
+    {
+        channel < self.counts.channels
+    }
+
     // The number n of a channel.
     pub fn number(&self, channel: usize) -> Option<i16>
         ensures { λ r. ⌜ r ≡ numberOf (net (now (self .entry))) channel ⌝ }
     {
-        if channel >= self.counts.channels {
+        if !self.has_channel(channel) {
             return None;
         }
         Some(self.numbers[channel])
@@ -66,7 +85,7 @@ impl<'s, 'c> Network<'s, 'c> {
     pub fn span(&self, span: usize) -> Option<Span>
         ensures { λ r. ⌜ r ≡ spanOf (net (now (self .entry))) span ⌝ }
     {
-        if span >= self.counts.spans {
+        if !self.has_span(span) {
             return None;
         }
         Some(self.ends[span])
@@ -76,7 +95,7 @@ impl<'s, 'c> Network<'s, 'c> {
     pub fn tariff(&self, span: usize, channel: usize) -> Option<u16>
         ensures { λ r. ⌜ r ≡ tariffOf (net (now (self .entry))) span channel ⌝ }
     {
-        if span >= self.counts.spans || channel >= self.counts.channels {
+        if !self.has_span(span) || !self.has_channel(channel) {
             return None;
         }
         charged(self.tariffs[span_entry(self.counts, span, channel)])
@@ -86,8 +105,7 @@ impl<'s, 'c> Network<'s, 'c> {
     pub fn converter(&self, node: usize, from: usize, to: usize) -> Option<u16>
         ensures { λ r. ⌜ r ≡ converterOf (net (now (self .entry))) node from to ⌝ }
     {
-        let channels = self.counts.channels;
-        if node >= self.counts.nodes || from >= channels || to >= channels {
+        if !self.has_node(node) || !self.has_channel(from) || !self.has_channel(to) {
             return None;
         }
         charged(self.converters[converter_entry(self.counts, node, from, to)])

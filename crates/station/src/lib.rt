@@ -1,6 +1,7 @@
 //! The console's run: it loads the plan, and answers the tickets of standard input.
 ghost use Prim.Native.Nat.{_≤_};
 ghost use lib.ListN.{length};
+ghost use Rattle.desk.specs.Inputs.{AnsweredByLines};
 use book::Book;
 use desk::input::feed;
 use desk::input::finish;
@@ -98,7 +99,10 @@ fn load(
 }
 
 // Reads `plan.bin` in the working folder, then tickets from standard input, and replies to each.
-pub fn run(rt: &LibcRuntime) -> io::Result<()> {
+// What it reads and prints no contract can say; what it says to the lines that it reads is a law.
+pub fn run(rt: &LibcRuntime) -> io::Result<()>
+    ensures { λ _. ⌜ AnsweredByLines ⌝ }
+{
     let bytes = read_plan(rt)?;
     let mut tariffs = vec![in rt.alloc(); ABSENT; SPAN_CHANNELS]?;
     let mut converters = vec![in rt.alloc(); ABSENT; CONVERTERS]?;
