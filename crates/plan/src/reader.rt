@@ -28,6 +28,17 @@ use fault::plan::SectionFault;
 use fault::plan::SectionFaultFromRecord;
 use network::counts::Counts;
 
+// How many bytes the header has, and where in it the pairs of the four sections stand.
+const HEADER: usize = 40;
+
+const NUMBERS: usize = 8;
+
+const SPANS: usize = 16;
+
+const TARIFFS: usize = 24;
+
+const CONVERTERS: usize = 32;
+
 // A plan over its bytes, its four sections as windows.
 #[derive(Clone, Copy)]
 pub struct Plan<'p> {
@@ -46,17 +57,17 @@ fn cut_sections<'p>(bytes: &'p [u8], header: Header) -> Result<Plan<'p>, Section
 {
     let channels = usize::from(header.channels);
     let count = usize::from(header.spans);
-    let numbers = cut(bytes, 8, 40, 2 * channels)?;
-    let spans = cut(bytes, 16, numbers.start + numbers.bytes.len(), 2 * count)?;
+    let numbers = cut(bytes, NUMBERS, HEADER, 2 * channels)?;
+    let spans = cut(bytes, SPANS, numbers.start + numbers.bytes.len(), 2 * count)?;
     let tariffs = cut(
         bytes,
-        24,
+        TARIFFS,
         spans.start + spans.bytes.len(),
         2 * (count * channels),
     )?;
     let converters = cut(
         bytes,
-        32,
+        CONVERTERS,
         tariffs.start + tariffs.bytes.len(),
         5 * usize::from(header.converters),
     )?;
