@@ -107,6 +107,8 @@ TICKETS = [
     (b"SHUT " + b"0" * 75 + b"#", b"NO 12 0"),
     # 1,000 bytes
     (b"SHUT 1" + b" " * 994, b"NO 12 0"),
+    # over one reading of the input, so that a line, and the next, lie across two
+    (b"SHUT 1" + b"0" * 70000, b"NO 12 0"),
     (b"SHUT 1", b"SHUT 1"),
     # the last line lacks its byte 10
     (b"SHUT 2", b"SHUT 2"),

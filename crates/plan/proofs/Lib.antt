@@ -8,3 +8,4 @@ pub mod Marks
 pub mod Owed
 pub mod Told
 pub mod Outside
+pub mod Listing

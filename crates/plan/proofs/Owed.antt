@@ -127,14 +127,15 @@ module _ (p : Plan) (n : Counts) (tariffs converters : ℕ) (o : Owed p n tariff
         let t = and-parts _ _ (s .1) in
         subst (λ (x : Span). (x .tail < n .nodes) × (x .head < n .nodes) × (x .tail ≡ x .head → ⊥)) (sym is) (ltb-true _ _ (s .0), ltb-true _ _ (t .0), eqb-false _ _ (not-true _ (t .1)))
 
-  -- a converter is at a node, changes one channel into another
-  proper-converter : (i : ℕ) → i < p .header .converters → (converter i .node < n .nodes) × (converter i .from < n .channels) × (converter i .to < n .channels) × (converter i .from ≡ converter i .to → ⊥)
+  -- a converter is at a node, changes one channel into another, has a tariff, and they rise
+  pub proper-converter : (i : ℕ) → i < p .header .converters → (converter i .node < n .nodes) × (converter i .from < n .channels) × (converter i .to < n .channels) × (converter i .from ≡ converter i .to → ⊥) × (converter i .tariff ≡ absent → ⊥) × (after before (previous converter i) (converter i) ≡ true)
   proper-converter i h =
       let a = and-parts _ _ (each-sound (converterRow n (p .converters .start) (now (p .converters .bytes))) (p .header .converters) i (o .turns) h) in
       let b = and-parts _ _ (a .1) in
       let c = and-parts _ _ (b .1) in
       let d = and-parts _ _ (c .1) in
-      (ltb-true _ _ (a .0), ltb-true _ _ (b .0), ltb-true _ _ (c .0), eqb-false _ _ (not-true _ (d .0)))
+      let e = and-parts _ _ (d .1) in
+      (ltb-true _ _ (a .0), ltb-true _ _ (b .0), ltb-true _ _ (c .0), eqb-false _ _ (not-true _ (d .0)), eqb-false _ _ (not-true _ (e .0)), e .1)
 
   pub placed : (i : ℕ) → i < p .header .converters → place n (converter i) < converterEntries n
   placed i h = let s = proper-converter i h in converter-entry n (converter i .node) (converter i .from) (converter i .to) (s .0) (s .1) (s .2)

@@ -8,3 +8,4 @@ pub mod Plan
 pub mod Kept
 pub mod Telling
 pub mod Unread
+pub mod Faithful

@@ -7,6 +7,7 @@ ghost use Rattle.network.specs.Limits.{Counted, noSpan};
 ghost use Rattle.network.specs.Tables.{filled, tabled};
 ghost use Rattle.network.specs.Tariffs.{absent, converterEntries};
 ghost use Rattle.network.specs.Net.{net};
+ghost use Rattle.plan.specs.Faithful.{Faithful};
 ghost use Rattle.plan.specs.Kept.{Accepted};
 ghost use Rattle.plan.specs.Plan.{readBy};
 ghost use Rattle.plan.specs.Records.{numberIn, spanIn, tariffIn, converterIn};
@@ -109,7 +110,8 @@ impl Plan<'_> {
     pub fn network<'s, 'c>(self, tariffs: &'s [u16], converters: &'c [u16]) -> Network<'s, 'c>
         requires accepted { ⌜ ((bs : List ℕ) × Accepted self bs (length (now tariffs)) (length (now converters))) ⌝ }
         requires loaded { ⌜ Loaded (readBy self) (now tariffs) (now converters) ⌝ }
-        ensures { λ r. ⌜ net r ≡ tells (readBy (self .entry)) ⌝ }
+        ensures is { λ r. ⌜ net r ≡ tells (readBy (self .entry)) ⌝ }
+        ensures faithful { λ r. ⌜ Faithful (readBy (self .entry)) (net r) ⌝ }
     {
         let header = self.header;
         let counts = header.counts();

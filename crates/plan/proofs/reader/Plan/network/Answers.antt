@@ -1,5 +1,6 @@
 use mathlib.Core.Path.{_≡_, refl, sym, _∙_}
-use Rattle.plan.proofs.Owed.{owed-at, ranged, rising, joined, few-converters, proper-converters}
+use Rattle.plan.proofs.Owed.{owed, owed-at, ranged, rising, joined, few-converters, proper-converters}
+use Rattle.plan.proofs.Listing.{faithful}
 use Rattle.plan.proofs.Told.{tariffs-are, converters-are, told-is}
 use Rattle.plan.proofs.reader.Plan.network.Needs as need
 
@@ -38,5 +39,7 @@ returns c =
     let r = p .header .converters in
     let tariffs = c .args .tariffs .now in
     let converters = c .args .converters .now in
+    let is =
     c .make .ensures .is
-    ∙ told-is p n (c .counts-counts .ensures) r refl (c .read-numbers-numbers .result) _ (c .read-ends-ends .result) _ tariffs _ converters _ (c .read-numbers-numbers .ensures) (c .read-ends-ends .ensures) (c .pre .loaded .0 ∙ sym (tariffs-are p n (c .counts-counts .ensures) r refl tariffs)) (c .pre .loaded .1 ∙ sym (converters-are p n (c .counts-counts .ensures) r refl converters))
+    ∙ told-is p n (c .counts-counts .ensures) r refl (c .read-numbers-numbers .result) _ (c .read-ends-ends .result) _ tariffs _ converters _ (c .read-numbers-numbers .ensures) (c .read-ends-ends .ensures) (c .pre .loaded .0 ∙ sym (tariffs-are p n (c .counts-counts .ensures) r refl tariffs)) (c .pre .loaded .1 ∙ sym (converters-are p n (c .counts-counts .ensures) r refl converters)) in
+    record { is = is; faithful = faithful p _ _ (owed p (c .pre .accepted .0) _ _ (c .pre .accepted .1)) _ is }
