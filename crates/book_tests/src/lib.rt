@@ -1,4 +1,5 @@
 //! Examples for the book, over the sample network.
+#![tactic(auto)]
 #[cfg(test)]
 mod tests {
     use book::{Book, check_tables};

@@ -1,4 +1,5 @@
 //! The console.
+#![tactic(auto)]
 use std::io;
 
 fn main(rt: HostRuntime) -> io::Result<()> {

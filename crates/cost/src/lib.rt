@@ -1,4 +1,6 @@
 //! Kinds of cost: how a semilightpath's cost is built, step by step, and compared.
+#![tactic(auto)]
+
 pub mod charge;
 pub mod fee;
 pub mod few;

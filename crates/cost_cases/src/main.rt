@@ -2,6 +2,7 @@
 //! and another value. A charge is `S` (a span) or `C` (a conversion) with its tariff. It prints
 //! the start of that kind and the value after the charges, or whether the value is at most the
 //! other.
+#![tactic(auto)]
 use cost::charge::{Charge, after_all};
 use cost::fee::Fee;
 use cost::few::Few;

@@ -1,4 +1,6 @@
 //! Labels: the 32-bit names by which a node's cabinet tells channels apart.
+#![tactic(auto)]
+
 ghost use Rattle.std.specs.Prelude.{◌≡◌};
 ghost use Rattle.label.specs.Labels.{reading, sayable, sound, writing, Centred, Exactly, ReadsBack, WritesBack};
 

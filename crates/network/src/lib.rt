@@ -1,4 +1,6 @@
 //! The network: nodes, spans and channels, with what each span and each converter costs.
+#![tactic(auto)]
+
 ghost use Rattle.network.specs.Limits.{Counted, Spaced, Ranged, Rising, Joined, Roomy, Few, Proper};
 
 pub mod counts;

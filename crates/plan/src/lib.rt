@@ -1,4 +1,5 @@
 //! The plan file: its header, its four sections and their records.
+#![tactic(auto)]
 mod checks;
 pub mod header;
 mod loading;

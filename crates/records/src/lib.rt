@@ -1,4 +1,6 @@
 //! The records of the book's tables, and how they fit together.
+#![tactic(auto)]
+
 pub mod channel;
 pub mod circuit;
 pub mod state;

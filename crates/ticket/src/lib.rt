@@ -1,4 +1,6 @@
 //! Tickets: a line of bytes cut into words that borrow it, and what the words say.
+#![tactic(auto)]
+
 ghost use Rattle.std.specs.Prelude.{◌≡◌};
 ghost use Rattle.ticket.specs.Lines.{of_length};
 ghost use Rattle.ticket.specs.Tickets.{ticket_of};

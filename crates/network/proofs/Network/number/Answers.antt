@@ -8,5 +8,5 @@ pub returns : goal.returns
 returns c =
     let numbers = c.args.self.now.numbers in
     let fits : SFits w16 (get_or numbers c.args.channel (pos 0)) = search rules in
-    let h = ltb-true _ _ (sym c.if-not-has-channel.ensures) in
+    let h = ltb-true _ _ (sym c.if-not-has_channel.ensures) in
     given_some _ _ _ _ h (to_z-of_z w16 _ fits ∙ front _ numbers c.args.channel (pos 0) h)
