@@ -1,5 +1,6 @@
 //! The plan file: its header, its four sections and their records.
 #![tactic(auto)]
+
 mod checks;
 pub mod header;
 mod loading;

@@ -3,7 +3,7 @@ use Rattle.std.proofs.lemmas.Result.{err_from_is_err_and, MatchResult-weaker}
 use Rattle.std.proofs.lemmas.Bool.{not-true, not-false}
 use Rattle.ticket.proofs.Cutting.{Inv, turn_on, turn_ends, turn_done, Turned, byte_fault, large_here, large_last, whole}
 use Rattle.ticket.proofs.cut.cut.Goals as goal
-use Rattle.ticket.proofs.cut.cut.Goals.{then-run-ends+in-ok-count, else-run-ends}
+use Rattle.ticket.proofs.cut.cut.Goals.{then-run_ends+in_ok-count, else-run_ends}
 
 pub returns-in_err-count : goal.returns-in_err-count
 returns-in_err-count c =
@@ -20,9 +20,9 @@ returns-in_err-judge c =
     let at = c.if-run_ends in
     let t : Turned bs at.held at.count at.start l.i =
     elim at.branch [
-      | then-run-ends+in-ok-count w ↦
+      | then-run_ends+in_ok-count w ↦
           turn_ends bs l.held _ l.count _ l.start _ l.i l.invariant w.hold.new.held w.in_ok-count.count (not-true _ (sym w.if-run_ends.ensures)) (search rules) w.in_ok-count.ensures w.held-is w.count-is (omega (arith, w.start-is))
-      | else-run-ends w ↦ turn_on bs l.held _ l.count _ l.start _ l.i l.invariant (not-false _ (sym w.if-run_ends.ensures)) w.held-is w.count-is w.start-is
+      | else-run_ends w ↦ turn_on bs l.held _ l.count _ l.start _ l.i l.invariant (not-false _ (sym w.if-run_ends.ensures)) w.held-is w.count-is w.start-is
     ] in
     rw (p.1, p.2) (byte_fault bs l.i l.invariant.0 _ c.loop-i-test.true t.0.0 c.in_err-judge.ensures)
 
@@ -33,9 +33,9 @@ loop-i-preserved c =
     let at = c.if-run_ends in
     let t : Turned bs at.held at.count at.start l.i =
     elim at.branch [
-      | then-run-ends+in-ok-count w ↦
+      | then-run_ends+in_ok-count w ↦
           turn_ends bs l.held _ l.count _ l.start _ l.i l.invariant w.hold.new.held w.in_ok-count.count (not-true _ (sym w.if-run_ends.ensures)) (search rules) w.in_ok-count.ensures w.held-is w.count-is (omega (arith, w.start-is))
-      | else-run-ends w ↦ turn_on bs l.held _ l.count _ l.start _ l.i l.invariant (not-false _ (sym w.if-run_ends.ensures)) w.held-is w.count-is w.start-is
+      | else-run_ends w ↦ turn_on bs l.held _ l.count _ l.start _ l.i l.invariant (not-false _ (sym w.if-run_ends.ensures)) w.held-is w.count-is w.start-is
     ] in
     turn_done bs _ _ _ l.i l.invariant.0 t c.in_ok-judge.ensures
 
