@@ -1,5 +1,6 @@
 //! The book of a network: which circuits there are, which channels they hold, which spans are shut.
 #![tactic(auto)]
+
 ghost use Rattle.std.specs.Prelude.{◌≤◌, length};
 ghost use Rattle.network.specs.Limits.{Counted};
 ghost use Rattle.network.specs.Tariffs.{span_entries};

@@ -1,5 +1,6 @@
 //! The desk: it takes the lines of an input as tickets, makes the book's calls, and replies.
 #![tactic(auto)]
+
 pub mod fault;
 pub mod input;
 pub mod line;
