@@ -1,5 +1,6 @@
 //! The console's run: it loads the plan, and answers the tickets of standard input.
 #![tactic(auto)]
+
 ghost use Rattle.std.specs.Prelude.{◌≤◌, length};
 ghost use Rattle.desk.specs.Inputs.{AnsweredByLines};
 

@@ -6,7 +6,7 @@ use Rattle.station.proofs.work.Goals as goal
 pub open-book-requires : goal.open-book-requires
 open-book-requires c =
     roomy c.args.network.now.counts
-    (lent c.as-mut-slice.result.now c.as-mut-slice-2.result.now c.as-mut-slice-3.result.now)
+    (lent c.as_mut_slice.result.now c.as_mut_slice-2.result.now c.as_mut_slice-3.result.now)
     c.args.network.now.counted
     (search rules)
     (search rules)
