@@ -1,5 +1,6 @@
 //! Examples for the book, over the sample network.
 #![tactic(auto)]
+
 #[cfg(test)]
 mod tests {
     use book::{Book, check_tables};

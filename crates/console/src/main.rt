@@ -1,5 +1,6 @@
 //! The console.
 #![tactic(auto)]
+
 use std::io;
 
 fn main(rt: HostRuntime) -> io::Result<()> {

@@ -3,6 +3,7 @@
 //! the start of that kind and the value after the charges, or whether the value is at most the
 //! other.
 #![tactic(auto)]
+
 use cost::charge::{Charge, after_all};
 use cost::fee::Fee;
 use cost::few::Few;

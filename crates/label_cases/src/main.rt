@@ -2,6 +2,7 @@
 //! `WRITE`, a spacing code and a number n. It prints what the label tells and the label that this
 //! is written back as, or the label written and what it reads back as, or the refusal.
 #![tactic(auto)]
+
 use fault::label::LabelFault;
 use fault::report::Fault;
 use label::Label;

@@ -1,5 +1,6 @@
 //! The console where there is no `plan.bin`: an empty plan, which is refused.
 #![tactic(auto)]
+
 use std::io;
 
 fn main(rt: HostRuntime) -> io::Result<()> {

@@ -2,6 +2,7 @@
 //! bytes follow them, and how long the two tables are. It prints the refusal, or the network's
 //! counts, its spacing code, a digest of all that it tells, and how many entries were left alone.
 #![tactic(auto)]
+
 ghost use Rattle.std.specs.Prelude.{◌≤◌};
 
 use fault::report::{Fault, Layer};
