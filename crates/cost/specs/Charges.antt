@@ -1,6 +1,6 @@
 -- What a run of charges comes to.
 use Rattle.std.specs.Prelude.{◌≡◌, ℕ, ◌<◌, true, List, fold}
-use Rattle.std.specs.List.{AllByRecursion as All}
+use Rattle.std.specs.List.{AllByRecursion}
 use Rattle.network.specs.Tariffs.{absent}
 use Rattle.cost.specs.Laws.{Ops}
 use Rattle.cost.specs.declared.charge.Charge.{Charge}
@@ -20,7 +20,7 @@ amount_of (Conversion w) = w
 
 -- every charge is a tariff
 abbrev pub Tariffed : List Charge → Type 0
-Tariffed cs = All (λ c. amount_of c < absent) cs
+Tariffed cs = AllByRecursion (λ c. amount_of c < absent) cs
 
 -- after the same charges, whatever is at most v is at most r
 abbrev pub KeepsOrder : {V : Type 0} → Ops V → List Charge → V → V → Type 0

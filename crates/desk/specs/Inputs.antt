@@ -1,6 +1,6 @@
 -- What the desk does with a whole input, in lines.
 use Rattle.std.specs.Prelude.{◌≡◌, ℕ, false, cond, List, [], ◌∷◌, ◌++◌, fold, ◌==◌}
-use Rattle.std.specs.List.{flat_map, AllByRecursion as All, concat as whole}
+use Rattle.std.specs.List.{flat_map, AllByRecursion, concat as whole}
 use Rattle.network.specs.declared.counts.Counts.{Counts}
 use Rattle.book.specs.State.{Tables}
 use Rattle.desk.specs.Serving.{after_line}
@@ -18,7 +18,7 @@ lines (b ∷ bs) = cond (b == 10) ([] ∷ lines bs) (onto b (lines bs))
 
 -- no byte here ends a line
 abbrev pub Unbroken : List ℕ → Type 0
-Unbroken bs = All (λ b. (b == 10) ≡ false) bs
+Unbroken bs = AllByRecursion (λ b. (b == 10) ≡ false) bs
 
 -- what stands before the first byte 10 is the first line, and the rest has the others; where there
 -- is no byte 10, all bytes are one line, or none

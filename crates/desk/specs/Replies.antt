@@ -4,8 +4,8 @@ use Rattle.fault.specs.Reports.{of_ticket, of_book}
 use Rattle.fault.specs.declared.report.Report.{Report}
 use Rattle.desk.specs.declared.reply.Reply.{Reply}
 use Rattle.desk.specs.declared.reply.Reply.TheVariants.{Shut, No}
-use Rattle.desk.specs.declared.fault.DeskFault.{DeskFault}
-use Rattle.desk.specs.declared.fault.DeskFault.TheVariants as desk
+use Rattle.desk.specs.declared.refusal.DeskFault.{DeskFault}
+use Rattle.desk.specs.declared.refusal.DeskFault.TheVariants as desk
 
 -- a fault's number and its place
 abbrev pub number_place : Report → List ℕ

@@ -8,8 +8,8 @@ use Rattle.book.specs.State.{Tables}
 use Rattle.ticket.specs.declared.Ticket.{Ticket}
 use Rattle.ticket.specs.declared.Ticket.TheVariants as ticket
 use Rattle.ticket.specs.Tickets.{ticket_of}
-use Rattle.desk.specs.declared.fault.DeskFault.{DeskFault}
-use Rattle.desk.specs.declared.fault.DeskFault.TheVariants as desk
+use Rattle.desk.specs.declared.refusal.DeskFault.{DeskFault}
+use Rattle.desk.specs.declared.refusal.DeskFault.TheVariants as desk
 use Rattle.desk.specs.declared.reply.Reply.{Reply}
 use Rattle.desk.specs.declared.reply.Reply.TheVariants as reply
 use Rattle.desk.specs.Replies.{of_desk}

@@ -3,7 +3,7 @@ ghost use Rattle.book.specs.State.{tables, Kept};
 ghost use Rattle.ticket.specs.Tickets.{ticket_of};
 ghost use Rattle.desk.specs.Serving.{served, served_after, reply_to, after_line};
 
-use super::fault::DeskFault;
+use super::refusal::DeskFault;
 use super::reply::Reply;
 use book::Book;
 use fault::report::Fault;

@@ -1,6 +1,6 @@
 -- What a line that is cut says.
 use Rattle.std.proofs.Common.{◌≡◌, ℕ, zero, suc, ◌+◌, ◌-◌, ◌<◌, ◌≤◌, Bool, true, false, cond, not, ◌&&◌, ◌||◌, ltb, leb, List, [], ◌∷◌, map, length, get_or, take, drop, Some, None, Err, Option, Result, sym, refl, ap, ◌∙◌, subst, ⊎_elim, add-one, arith}
-use Rattle.std.specs.List.{range_with_len, flat_map, AllByRecursion as All}
+use Rattle.std.specs.List.{range_with_len, flat_map, AllByRecursion}
 use Rattle.std.specs.Option.{option_map}
 use Rattle.std.proofs.ByRecursion.{All-append, All-get_or}
 use Rattle.std.proofs.lemmas.List.{drop_all, drop-map, drop_more, length-map, length-take-le, get_or-map, take_all}
@@ -60,9 +60,9 @@ pub with_first : (ws : List Word) (d : Word) → 0 < length ws → token_of (get
 with_first [] d h = absurd (omega arith)
 with_first (w ∷ ws) d h = ap (λ us. token_of w ∷ map token_of us) (take_all (suc (length ws) - 1) ws (omega arith))
 
-pub small_rest : (ws : List Word) → All Small (map token_of ws) → All Small (map token_of (take (length ws - 1) (drop 1 ws)))
+pub small_rest : (ws : List Word) → AllByRecursion Small (map token_of ws) → AllByRecursion Small (map token_of (take (length ws - 1) (drop 1 ws)))
 small_rest [] h = tt
-small_rest (w ∷ ws) h = subst (λ us. All Small (map token_of us)) (sym (take_all (suc (length ws) - 1) ws (omega arith))) h.1
+small_rest (w ∷ ws) h = subst (λ us. AllByRecursion Small (map token_of us)) (sym (take_all (suc (length ws) - 1) ws (omega arith))) h.1
 
 pub no_words : (ws : List Word) (n : ℕ) → length ws < 1 → Err (fault.Verb 1) ≡ meaning n (map token_of ws)
 no_words [] n h = refl
@@ -73,12 +73,12 @@ small_token : (at : ℕ) (w : List ℕ) (d : Bool) → not (d && (ltb 5 (length 
 small_token at w false h = tt
 small_token at w true h = let p = or_parts _ _ (not-true _ h) in (ltb-false 5 (length w) p.0, ltb-false 65535 (value w) p.1)
 
-small_word : (at : ℕ) (w : List ℕ) (e l : Bool) → not (e && too_large w) ≡ true → All Small (cond e (cond l (token at w ∷ []) []) [])
+small_word : (at : ℕ) (w : List ℕ) (e l : Bool) → not (e && too_large w) ≡ true → AllByRecursion Small (cond e (cond l (token at w ∷ []) []) [])
 small_word at w false l h = tt
 small_word at w true false h = tt
 small_word at w true true h = (small_token at w (is_digit (get_or w 0 0)) h, tt)
 
-small_at : (bs : List ℕ) (i : ℕ) → (of_run bs i).sound ≡ true → All Small (word_at bs i)
+small_at : (bs : List ℕ) (i : ℕ) → (of_run bs i).sound ≡ true → AllByRecursion Small (word_at bs i)
 small_at bs i h = small_word (run_start bs i + 1) (run bs i) (ends bs i) (ltb (run_start bs i) i) h
 
 both_none : {F : Type 0} (a b : Option F) → or_else a b ≡ None → (a ≡ None) × (b ≡ None)
@@ -89,23 +89,23 @@ sound_from : (b : Bool) (o : Option WordFault) (f : WordFault) → cond b o (Som
 sound_from true o f h = refl
 sound_from false o f h = absurd (let z : ◌≡◌ {A = ℕ} 0 1 = cc in omega arith)
 
-small_more : (bs : List ℕ) (i : ℕ) → All Small (flat_map (word_at bs) (range_with_len 0 i)) → (of_run bs i).sound ≡ true → All Small (flat_map (word_at bs) (range_with_len 0 (i + 1)))
+small_more : (bs : List ℕ) (i : ℕ) → AllByRecursion Small (flat_map (word_at bs) (range_with_len 0 i)) → (of_run bs i).sound ≡ true → AllByRecursion Small (flat_map (word_at bs) (range_with_len 0 (i + 1)))
 small_more bs i h r =
-    subst (All Small) (sym (joined_step (word_at bs) i)) (All-append Small (flat_map (word_at bs) (range_with_len 0 i)) (word_at bs i) h (small_at bs i r))
+    subst (AllByRecursion Small) (sym (joined_step (word_at bs) i)) (All-append Small (flat_map (word_at bs) (range_with_len 0 i)) (word_at bs i) h (small_at bs i r))
 
-small_below : (bs : List ℕ) (i : ℕ) → first (below bs i) ≡ None → All Small (flat_map (word_at bs) (range_with_len 0 i))
+small_below : (bs : List ℕ) (i : ℕ) → first (below bs i) ≡ None → AllByRecursion Small (flat_map (word_at bs) (range_with_len 0 i))
 small_below bs zero h = tt
 small_below bs (suc i) h =
     let p = both_none (first (below bs i)) (first (judged_at bs i)) (sym (below_step bs i) ∙ ap (λ n. first (below bs n)) (add-one i) ∙ h) in
-    let P : ℕ → Type 0 = λ n. All Small (flat_map (word_at bs) (range_with_len 0 n)) in
+    let P : ℕ → Type 0 = λ n. AllByRecursion Small (flat_map (word_at bs) (range_with_len 0 n)) in
     subst P (add-one i) (small_more bs i (small_below bs i p.0) (sound_from _ _ _ p.1))
 
-pub small_words : (bs : List ℕ) → first (of_line bs) ≡ None → All Small (words bs)
+pub small_words : (bs : List ℕ) → first (of_line bs) ≡ None → AllByRecursion Small (words bs)
 small_words bs h =
     let p = both_none (first (below bs (length bs))) (first (of_run bs (length bs) ∷ [])) (sym (line_is bs) ∙ h) in
     small_more bs (length bs) (small_below bs (length bs) p.0) (sound_from _ _ _ p.1)
 
-pub small_nth : (ws : List Word) (d : Word) (k : ℕ) → k < length ws → All Small (map token_of ws) → Small (token_of (get_or ws k d))
+pub small_nth : (ws : List Word) (d : Word) (k : ℕ) → k < length ws → AllByRecursion Small (map token_of ws) → Small (token_of (get_or ws k d))
 small_nth ws d k h all =
     let m = length-map ws token_of in
     subst Small (get_or-map token_of ws k d (name 0 []) h) (All-get_or Small (map token_of ws) k (name 0 []) (omega (arith, m)) all)

@@ -1,5 +1,5 @@
 ghost use Rattle.std.specs.Prelude.{◌≡◌, ◌+◌, ◌<◌, ◌≤◌, map, length, MatchResult};
-ghost use Rattle.std.specs.List.{AllByRecursion as All};
+ghost use Rattle.std.specs.List.{AllByRecursion};
 ghost use Rattle.std.specs.Str.{bytes_eq};
 ghost use Rattle.fault.specs.declared.ticket.TicketFault.TheVariants as ticket_fault;
 ghost use Rattle.ticket.specs.Lines.{Small, token_of};
@@ -47,7 +47,7 @@ impl Verb {
 
     // What it asks for with the words after it, in a line of `size` bytes.
     fn asked(self, words: &[Word<'_>], size: usize) -> Result<Ticket, TicketFault>
-        requires { (size ≤ 80) × (All Small (map token_of words.now)) }
+        requires { (size ≤ 80) × (AllByRecursion Small (map token_of words.now)) }
         ensures { result ≡ asked_by size (map token_of words.now) self }
     {
         counted(words, self.takes(), size)?;
@@ -89,7 +89,7 @@ fn counted(words: &[Word<'_>], wanted: usize, size: usize) -> Result<(), TicketF
 
 // What the words of a line of `size` bytes say.
 pub(crate) fn order(words: &[Word<'_>], size: usize) -> Result<Ticket, TicketFault>
-    requires { (size ≤ 80) × (All Small (map token_of words.now)) }
+    requires { (size ≤ 80) × (AllByRecursion Small (map token_of words.now)) }
     ensures { result ≡ meaning size (map token_of words.now) }
 {
     let [first, rest @ ..] = words else {

@@ -1,5 +1,5 @@
 use Rattle.std.proofs.Common.{◌≡◌, ◌-◌, map, length, take, sym, ap, ◌∙◌, subst, arith, rules}
-use Rattle.std.specs.List.{AllByRecursion as All}
+use Rattle.std.specs.List.{AllByRecursion}
 use Rattle.std.proofs.lemmas.Result.{err_from_is_err_and}
 use Rattle.ticket.specs.Lines.{Small, token_of, words}
 use Rattle.ticket.specs.Tickets.{meaning}
@@ -16,7 +16,7 @@ order-requires c =
     let h = c.in_ok-count.ensures in
     let n : c.in_ok-count.count - 0 ≡ c.in_ok-count.count = omega arith in
     let is : map token_of (take (c.in_ok-count.count - 0) c.cut.new.held) ≡ words c.args.line.now = ap (λ n. map token_of (take n c.cut.new.held)) n ∙ h.2 in
-    (search rules, subst (All Small) (sym is) (small_words c.args.line.now h.0))
+    (search rules, subst (AllByRecursion Small) (sym is) (small_words c.args.line.now h.0))
 
 pub returns : goal.returns
 returns c =

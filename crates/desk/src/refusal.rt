@@ -1,6 +1,6 @@
 ghost use Rattle.std.specs.Prelude.{◌≡◌};
 ghost use Rattle.desk.specs.Replies.{of_desk};
-ghost use Rattle.desk.specs.declared.fault.DeskFault.TheVariants as desk;
+ghost use Rattle.desk.specs.declared.refusal.DeskFault.TheVariants as desk;
 
 use fault::book::BookFault;
 use fault::report::{Fault, Report};
