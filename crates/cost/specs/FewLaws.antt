@@ -1,10 +1,8 @@
 -- FEW shows the four laws.
-use Rattle.std.specs.Prelude.{◌≡◌, ℕ, ◌+◌, ◌≤◌, min, true, ◌||◌, eqb, ltb, leb}
 use Rattle.std.proofs.Common.{arith}
 use Rattle.std.proofs.lemmas.Bool.Decides.{nat_tests}
 use Rattle.cost.specs.Laws.{Laws, Monotone, Upward}
 use Rattle.cost.specs.Fews.{few_span, few_conversion, few_at_most, few_ops}
-use Rattle.cost.specs.declared.tally.Tally.{Tally}
 
 span_monotone : Monotone few_at_most few_span
 span_monotone a b w h e = grind (arith, nat_tests)

@@ -1,5 +1,5 @@
 -- FEW: conversions counted first, then the tariffs added up.
-use Rattle.std.specs.Prelude.{◌≡◌, ℕ, ◌+◌, ◌≤◌, min, Bool, cond, ◌&&◌, ◌||◌, List, ◌++◌, codes, decimal, ◌==◌, nat_le, nat_lt}
+use Rattle.std.specs.Prelude.{◌≡◌, ℕ, ◌+◌, min, Bool, cond, ◌&&◌, ◌||◌, List, ◌++◌, codes, decimal, ◌==◌, nat_le, nat_lt}
 use Rattle.std.proofs.Common.{ap, arith, le-ltb}
 use Rattle.cost.specs.Laws.{Ops}
 use Rattle.cost.specs.Sums.{largest, fee, plus, fee_text}

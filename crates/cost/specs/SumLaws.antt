@@ -1,10 +1,8 @@
 -- SUM shows the four laws.
-use Rattle.std.specs.Prelude.{◌≡◌, ℕ, ◌+◌, ◌≤◌, min, true, ◌||◌, leb}
 use Rattle.std.proofs.Common.{arith}
 use Rattle.std.proofs.lemmas.Bool.Decides.{nat_tests}
 use Rattle.cost.specs.Laws.{Laws, Monotone, Upward}
-use Rattle.cost.specs.Sums.{largest, plus, sum_ops}
-use Rattle.cost.specs.declared.fee.Fee.{Fee}
+use Rattle.cost.specs.Sums.{plus, sum_ops}
 
 monotone : Monotone sum_ops.at_most plus
 monotone a b w h e = grind (arith, nat_tests)

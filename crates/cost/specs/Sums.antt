@@ -1,5 +1,5 @@
 -- SUM: the tariffs added up, stopping at the largest number of 32 bits.
-use Rattle.std.specs.Prelude.{ℕ, ◌+◌, ◌≤◌, min, List, decimal, nat_le}
+use Rattle.std.specs.Prelude.{ℕ, ◌+◌, min, List, decimal, nat_le}
 use Rattle.std.proofs.Common.{arith}
 use Rattle.cost.specs.Laws.{Ops}
 use Rattle.cost.specs.declared.fee.Fee.{Fee}

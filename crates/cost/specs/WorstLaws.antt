@@ -1,5 +1,5 @@
 -- WORST shows the four laws.
-use Rattle.std.specs.Prelude.{◌≡◌, ℕ, max, true, ◌||◌, nat_le}
+use Rattle.std.specs.Prelude.{max, nat_le}
 use Rattle.std.proofs.Common.{arith}
 use Rattle.std.proofs.lemmas.Bool.Decides.{nat_tests}
 use Rattle.cost.specs.Laws.{Laws, Monotone, Upward}

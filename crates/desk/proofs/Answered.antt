@@ -8,9 +8,9 @@ use Rattle.book.specs.State.{Tables}
 use Rattle.ticket.proofs.Reading.{long_line}
 use Rattle.desk.specs.Holding.{kept}
 use Rattle.desk.specs.Replies.{text}
-use Rattle.desk.specs.Serving.{served, served_after, reply_of, reply_to, after_line}
-use Rattle.desk.specs.Feeding.{Desk, desk, replied, turned, next, says, fed, said, ended, said_last}
-use Rattle.desk.specs.Inputs.{onto, lines, Unbroken, SplitAtTens, replies, after_lines, said_to, after, ByLines, AnsweredByLines}
+use Rattle.desk.specs.Serving.{served, served_after, reply_of, after_line}
+use Rattle.desk.specs.Feeding.{Desk, desk, replied, turned, fed, said, ended, said_last}
+use Rattle.desk.specs.Inputs.{onto, lines, Unbroken, SplitAtTens, replies, after_lines, said_to, AnsweredByLines}
 use Rattle.desk.proofs.Going.{fed-append, said-append}
 use Rattle.desk.proofs.Lines.{kept_push}
 

@@ -4,7 +4,7 @@ use Rattle.std.proofs.lemmas.List.FromFn.{map-range_with_len_more}
 use Rattle.std.proofs.lemmas.Bool.{cond-true, cond-false}
 use Rattle.std.specs.List.{range_with_len}
 use Rattle.std.specs.Option.{option_map}
-use Rattle.fault.specs.Judging.{Judgement, judge, first, each, within, inside, unless}
+use Rattle.fault.specs.Judging.{Judgement, first, each, inside, unless}
 
 -- the first fault of two lists of judgements
 abbrev pub or_else : {F : Type 0} → Option F → Option F → Option F

@@ -1,5 +1,5 @@
 -- Judgements in an order: the first that finds no soundness gives the fault.
-use Rattle.std.specs.Prelude.{ℕ, Bool, true, false, cond, List, [], ◌∷◌, map, Some, None, Ok, Err, Option, Result}
+use Rattle.std.specs.Prelude.{ℕ, Bool, cond, List, [], ◌∷◌, map, Some, None, Ok, Err, Option, Result}
 use Rattle.std.specs.List.{range_with_len}
 
 -- whether something is sound, and the fault where it is not

@@ -1,15 +1,13 @@
 -- Both round trips, and that a fault is answered exactly where it is due.
-use Rattle.std.proofs.Common.{◌≡◌, ℕ, suc, ◌+◌, ◌*◌, ◌/◌, ◌%◌, ◌^◌, ◌<◌, ◌≤◌, Bool, true, false, cond, ◌&&◌, eqb, leb, ℤ, pos, negsuc, ◌+ℤ◌, neg_ℤ, nat_abs, ◌≤ℤ◌, Ok, Err, Result, sym, refl, ap, ◌∙◌, subst, arith, w16, SFits, to_z, of_z}
+use Rattle.std.proofs.Common.{◌≡◌, ℕ, suc, ◌*◌, ◌/◌, ◌^◌, ◌<◌, ◌≤◌, Bool, true, ℤ, pos, negsuc, ◌+ℤ◌, neg_ℤ, nat_abs, ◌≤ℤ◌, Ok, Err, sym, refl, ap, ◌∙◌, subst, arith, w16, SFits, to_z, of_z}
 use Rattle.std.proofs.lemmas.Nat.{mul-le}
 use Rattle.std.proofs.lemmas.Int.{to_z-of_z, of_z-to_z, ints}
 use Rattle.std.proofs.lemmas.Bool.{eq-eqb, eqb-true}
 use Rattle.std.proofs.lemmas.Bool.Decides.{nat_tests}
-use Rattle.fault.specs.Reports.{of_label}
 use Rattle.fault.specs.declared.label.LabelFault.{LabelFault}
 use Rattle.fault.specs.declared.label.LabelFault.TheVariants.{Grid, Spacing, Identifier, Number}
 use Rattle.network.specs.Limits.{in_range}
 use Rattle.label.specs.declared.Label.{Label}
-use Rattle.label.specs.declared.Reading.{Reading}
 use Rattle.label.specs.Fields.{part, grid, spacing, identifier, number}
 use Rattle.label.specs.Labels.{coded, told, spacing_of, centre_of, number_in, sound, sayable, judged, reading, writing, written, Due, Exactly, ReadsBack, WritesBack, Centred}
 

@@ -1,5 +1,5 @@
 -- What a label tells, and how it is written.
-use Rattle.std.specs.Prelude.{◌≡◌, ℕ, ◌+◌, ◌<◌, Bool, true, false, cond, ◌&&◌, List, [], ◌∷◌, map, ℤ, pos, ◌+ℤ◌, ◌*ℤ◌, Ok, Err, Result, ◌==◌, nat_le, unsigned_abs}
+use Rattle.std.specs.Prelude.{◌≡◌, ℕ, ◌+◌, ◌<◌, Bool, true, false, cond, ◌&&◌, [], ◌∷◌, map, ℤ, pos, ◌+ℤ◌, ◌*ℤ◌, Ok, Err, Result, ◌==◌, nat_le, unsigned_abs}
 use Rattle.std.proofs.Common.{to_z, of_z}
 use Rattle.std.specs.Int.{w16}
 use Rattle.fault.specs.Judging.{judge, first, unless}

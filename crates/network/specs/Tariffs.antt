@@ -1,5 +1,5 @@
 -- The two tables of tariffs, and where an entry lies in them.
-use Rattle.std.specs.Prelude.{ℕ, ◌+◌, ◌*◌, Bool, cond, List, [], ◌∷◌, Some, None, Option, ◌==◌}
+use Rattle.std.specs.Prelude.{ℕ, ◌+◌, ◌*◌, cond, List, [], ◌∷◌, Some, None, Option, ◌==◌}
 use Rattle.network.specs.declared.counts.Counts.{Counts}
 
 -- what stands where a span does not carry a channel, or a node has no such converter

@@ -1,5 +1,5 @@
 -- The file first, then the tables.
-use Rattle.std.proofs.Common.{◌≡◌, ℕ, Bool, true, false, cond, List, [], ◌∷◌, ◌++◌, Some, None, Ok, Err, Option, Result, sym, refl, ap, ◌∙◌, subst, arith}
+use Rattle.std.proofs.Common.{◌≡◌, ℕ, Bool, true, false, cond, List, [], ◌∷◌, Some, None, Ok, Err, Result, sym, refl, ap, ◌∙◌, subst, arith}
 use Rattle.std.proofs.lemmas.Bool.{cond-true, cond-false}
 use Rattle.fault.specs.Judging.{Judgement, judge, first, inside}
 use Rattle.fault.specs.declared.book.BookFault.{BookFault}
@@ -8,7 +8,7 @@ use Rattle.fault.specs.declared.plan.FileFault.{FileFault}
 use Rattle.fault.specs.declared.plan.FileFault.TheVariants.{Section}
 use Rattle.fault.specs.declared.plan.LoadFault.{LoadFault}
 use Rattle.fault.specs.declared.plan.LoadFault.TheVariants.{File, Book}
-use Rattle.fault.proofs.Judged.{append_some, append_none, both_none, inside_some, inside_none, inside_sound}
+use Rattle.fault.proofs.Judged.{append_some, append_none, both_none, inside_some, inside_none}
 use Rattle.network.specs.Limits.{Counted}
 use Rattle.network.specs.declared.counts.Counts.{Counts}
 use Rattle.plan.specs.declared.reader.Plan.{Plan}

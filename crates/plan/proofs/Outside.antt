@@ -1,5 +1,5 @@
 -- Plans that are alike are judged alike.
-use Rattle.std.proofs.Common.{◌≡◌, ℕ, ◌+◌, ◌*◌, ◌<◌, eqb, leb, List, [], ◌∷◌, ◌++◌, length, get_or, take, sym, refl, ap, ◌∙◌, arith}
+use Rattle.std.proofs.Common.{◌≡◌, ℕ, ◌+◌, ◌*◌, ◌<◌, eqb, leb, List, [], ◌∷◌, ◌++◌, get_or, sym, ap, ◌∙◌, arith}
 use Rattle.std.proofs.lemmas.List.{get_or-take}
 use Rattle.fault.specs.Judging.{Judgement, judge, first, inside}
 use Rattle.fault.specs.declared.book.BookFault.TheVariants.{LoadTable}
@@ -11,7 +11,7 @@ use Rattle.fault.specs.declared.plan.SectionFault.TheVariants.{Early, Length, Be
 use Rattle.plan.specs.declared.header.Header.{Header}
 use Rattle.plan.specs.Bytes.{byte, short, wide, among}
 use Rattle.plan.specs.Header.{header, header_faults, counts_of}
-use Rattle.plan.specs.Plan.{Read, rows, pairs_faults, record_faults, section_faults, file_faults, load_faults, roomy, read}
+use Rattle.plan.specs.Plan.{rows, pairs_faults, record_faults, load_faults, roomy, read}
 use Rattle.plan.specs.Sections.{start, extent, end, numbers_pair, spans_pair, tariffs_pair, converters_pair, numbers_size, spans_size, tariffs_size, converters_size}
 use Rattle.plan.specs.Unread.{Alike, Unread}
 

@@ -1,15 +1,14 @@
 -- What an accepted plan owes to the limits of a network.
-use Rattle.std.proofs.Common.{◌≡◌, ℕ, zero, suc, ◌+◌, ◌*◌, ◌/◌, ◌%◌, ◌<◌, ◌≤◌, Bool, true, false, cond, not, ◌&&◌, eqb, ltb, leb, List, [], ◌∷◌, ◌++◌, map, length, get_or, take, replicate, ℤ, pos, Some, None, Option, sym, refl, ap, ◌∙◌, subst, ⊎_elim, add-one, arith}
+use Rattle.std.proofs.Common.{◌≡◌, ℕ, zero, suc, ◌+◌, ◌*◌, ◌/◌, ◌%◌, ◌<◌, ◌≤◌, true, List, ◌++◌, length, get_or, take, ℤ, pos, None, sym, refl, ap, ◌∙◌, subst, add-one, arith}
 use lib.Arith.{digits_div, digits_mod}
 use lib.Signed.{lt_z}
-use Rattle.std.specs.List.{range_with_len}
 use Rattle.std.proofs.lemmas.Bool.{and_parts, not-true, leb-true, ltb-true, eqb-false, ne_eqb, cond-false}
-use Rattle.fault.specs.Judging.{Judgement, first, inside}
+use Rattle.fault.specs.Judging.{first, inside}
 use Rattle.fault.specs.declared.plan.FileFault.TheVariants.{Section}
 use Rattle.fault.specs.declared.plan.LoadFault.TheVariants.{File}
 use Rattle.fault.specs.declared.plan.SectionFault.TheVariants.{Record}
 use Rattle.fault.proofs.Judged.{cond_none, both_none, inside_sound, each_sound}
-use Rattle.network.specs.Limits.{Counted, Spaced, Ranged, Rising, Joined, Roomy, Few, Proper, in_range, number_at, span_at, no_span}
+use Rattle.network.specs.Limits.{Counted, Spaced, Ranged, Rising, Joined, Few, Proper, in_range, number_at, span_at, no_span}
 use Rattle.network.specs.Tables.{tabled}
 use Rattle.network.specs.Tariffs.{absent, present, span_entries, converter_entries, converter_entry}
 use Rattle.network.specs.declared.counts.Counts.{Counts}
@@ -19,11 +18,10 @@ use Rattle.network.proofs.Filled.{take-tabled, get_or-tabled, length-tabled}
 use Rattle.plan.specs.declared.header.Header.{Header}
 use Rattle.plan.specs.declared.reader.Plan.{Plan}
 use Rattle.plan.specs.declared.record.Converter.{Converter}
-use Rattle.plan.specs.Facts.{Headed}
 use Rattle.plan.specs.Header.{header, header_faults, counts_of}
-use Rattle.plan.specs.Kept.{Told, Fitted, Accepted, rows_of}
-use Rattle.plan.specs.Plan.{rows, pairs_faults, record_faults, section_faults, file_faults, load_faults, roomy}
-use Rattle.plan.specs.Records.{number_in, span_in, converter_in, previous, after, before, sound_number, sound_span, sound_converter, number_row, span_row, converter_row, number_faults, span_faults, converter_faults}
+use Rattle.plan.specs.Kept.{Accepted, rows_of}
+use Rattle.plan.specs.Plan.{rows, pairs_faults, record_faults, section_faults, file_faults, roomy}
+use Rattle.plan.specs.Records.{number_in, span_in, converter_in, previous, after, before, number_row, span_row, converter_row, number_faults, span_faults, converter_faults}
 use Rattle.plan.specs.Telling.{place, listed}
 use Rattle.plan.proofs.Heads.{headed}
 use Rattle.plan.proofs.Marks.{present_listed}

@@ -1,5 +1,5 @@
 -- The four pairs of the header, one after the other.
-use Rattle.std.proofs.Common.{◌≡◌, ℕ, ◌+◌, ◌*◌, ◌≤◌, List, [], ◌∷◌, ◌++◌, length, Some, None, Option, sym, refl, ap, ◌∙◌, arith}
+use Rattle.std.proofs.Common.{◌≡◌, ℕ, ◌+◌, ◌*◌, ◌≤◌, List, ◌++◌, length, Some, None, Option, sym, refl, ap, ◌∙◌, arith}
 use Rattle.fault.specs.Judging.{Judgement, first}
 use Rattle.fault.specs.declared.plan.SectionFault.{SectionFault}
 use Rattle.fault.proofs.Judged.{append_some, append_none}

@@ -1,5 +1,5 @@
 -- Channel numbers, then spans, then converters; and the layers around them.
-use Rattle.std.proofs.Common.{◌≡◌, ℕ, List, [], ◌∷◌, ◌++◌, Some, None, Ok, Err, Option, Result, sym, refl, ap, ◌∙◌}
+use Rattle.std.proofs.Common.{◌≡◌, ℕ, List, ◌++◌, Some, None, Ok, Err, Option, Result, sym, ap, ◌∙◌}
 use Rattle.fault.specs.Judging.{Judgement, first, inside, unless}
 use Rattle.fault.specs.declared.plan.FileFault.{FileFault}
 use Rattle.fault.specs.declared.plan.FileFault.TheVariants.{Section}

@@ -1,5 +1,5 @@
 -- A loop over the records of a section.
-use Rattle.std.proofs.Common.{◌≡◌, ℕ, zero, suc, ◌+◌, ◌<◌, ◌≤◌, Bool, true, false, Some, None, Ok, Err, Option, Result, sym, refl, ap, ◌∙◌, add-one, arith}
+use Rattle.std.proofs.Common.{◌≡◌, ℕ, ◌+◌, ◌<◌, false, Some, None, Ok, Err, Result, sym, ap, ◌∙◌, add-one}
 use Rattle.fault.specs.Judging.{Judgement, first, each, unless}
 use Rattle.fault.proofs.Judged.{each_at}
 use Rattle.plan.specs.Records.{previous}

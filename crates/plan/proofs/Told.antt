@@ -1,7 +1,7 @@
 -- The network that is made is the one that the plan tells.
-use Rattle.std.proofs.Common.{◌≡◌, ℕ, List, map, take, ℤ, sym, refl, ap, ◌∙◌}
+use Rattle.std.proofs.Common.{◌≡◌, ℕ, List, map, take, ℤ, ap, ◌∙◌}
 use Rattle.std.specs.List.{range_with_len}
-use Rattle.network.specs.Net.{Net, value}
+use Rattle.network.specs.Net.{value}
 use Rattle.network.specs.Tables.{tabled}
 use Rattle.network.specs.Tariffs.{span_entries, converter_entries}
 use Rattle.network.specs.declared.counts.Counts.{Counts}

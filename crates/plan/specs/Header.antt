@@ -1,5 +1,5 @@
 -- The plan's first eight bytes, and what a sound header is.
-use Rattle.std.specs.Prelude.{ℕ, ◌*◌, List, [], ◌∷◌, length, ◌==◌, nat_le}
+use Rattle.std.specs.Prelude.{ℕ, List, [], ◌∷◌, length, ◌==◌, nat_le}
 use Rattle.fault.specs.Judging.{Judgement, judge}
 use Rattle.fault.specs.declared.plan.FileFault.{FileFault}
 use Rattle.fault.specs.declared.plan.FileFault.TheVariants.{Size, Version, Value}

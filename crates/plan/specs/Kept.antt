@@ -1,5 +1,5 @@
 -- What is known of a plan whose pairs are sound.
-use Rattle.std.specs.Prelude.{◌≡◌, ℕ, ◌+◌, ◌*◌, ◌≤◌, List, length, None}
+use Rattle.std.specs.Prelude.{◌≡◌, ℕ, ◌+◌, ◌≤◌, List, length, None}
 use Rattle.fault.specs.Judging.{Judgement, first}
 use Rattle.fault.specs.declared.plan.RecordFault.{RecordFault}
 use Rattle.plan.specs.declared.header.Header.{Header}

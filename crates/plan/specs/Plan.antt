@@ -1,6 +1,5 @@
 -- A plan: which fault comes first, and the network that it tells.
-use Rattle.std.specs.Prelude.{ℕ, zero, suc, ◌+◌, ◌*◌, Bool, cond, ◌&&◌, List, [], ◌∷◌, ◌++◌, map, length, nat_le}
-use Rattle.std.specs.List.{range_with_len}
+use Rattle.std.specs.Prelude.{ℕ, Bool, ◌&&◌, List, [], ◌∷◌, ◌++◌, nat_le}
 use Rattle.fault.specs.Judging.{Judgement, judge, inside}
 use Rattle.fault.specs.declared.book.BookFault.TheVariants.{LoadTable}
 use Rattle.fault.specs.declared.plan.FileFault.{FileFault}
@@ -10,7 +9,7 @@ use Rattle.fault.specs.declared.plan.LoadFault.TheVariants.{File, Book}
 use Rattle.fault.specs.declared.plan.RecordFault.{RecordFault}
 use Rattle.fault.specs.declared.plan.SectionFault.{SectionFault}
 use Rattle.fault.specs.declared.plan.SectionFault.TheVariants.{Record}
-use Rattle.network.specs.Tariffs.{absent, span_entries, converter_entries, converter_entry}
+use Rattle.network.specs.Tariffs.{span_entries, converter_entries}
 use Rattle.network.specs.declared.counts.Counts.{Counts}
 use Rattle.plan.specs.declared.header.Header.{Header}
 use Rattle.plan.specs.declared.reader.Plan.{Plan}

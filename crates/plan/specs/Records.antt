@@ -1,5 +1,5 @@
 -- The records of the plan's sections, and what a sound record is.
-use Rattle.std.specs.Prelude.{ℕ, zero, suc, ◌+◌, ◌*◌, Bool, true, not, ◌&&◌, ◌||◌, List, ◌++◌, ℤ, Some, None, Option, ◌==◌, int_lt, nat_lt}
+use Rattle.std.specs.Prelude.{ℕ, zero, suc, ◌+◌, ◌*◌, Bool, true, not, ◌&&◌, ◌||◌, List, ℤ, Some, None, Option, ◌==◌, int_lt, nat_lt}
 use Rattle.fault.specs.Judging.{Judgement, judge, each}
 use Rattle.fault.specs.declared.plan.RecordFault.{RecordFault}
 use Rattle.fault.specs.declared.plan.RecordFault.TheVariants as fault

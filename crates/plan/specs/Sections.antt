@@ -1,5 +1,5 @@
 -- The plan's four sections, and what a sound section is.
-use Rattle.std.specs.Prelude.{ℕ, ◌+◌, ◌*◌, List, [], ◌∷◌, ◌++◌, length, take, drop, ◌==◌, nat_le}
+use Rattle.std.specs.Prelude.{ℕ, ◌+◌, ◌*◌, List, [], ◌∷◌, length, take, drop, ◌==◌, nat_le}
 use Rattle.fault.specs.Judging.{Judgement, judge}
 use Rattle.fault.specs.declared.plan.SectionFault.{SectionFault}
 use Rattle.fault.specs.declared.plan.SectionFault.TheVariants.{Early, Length, Beyond}

@@ -1,11 +1,10 @@
 -- The network that a plan tells.
-use Rattle.std.specs.Prelude.{◌≡◌, ℕ, zero, suc, cond, List, map, ℤ, ◌==◌}
+use Rattle.std.specs.Prelude.{◌≡◌, ℕ, zero, suc, cond, List, map, ◌==◌}
 use Rattle.std.specs.List.{range_with_len}
 use Rattle.network.specs.Net.{Net}
 use Rattle.network.specs.Tables.{tabled}
 use Rattle.network.specs.Tariffs.{absent, span_entries, converter_entries, converter_entry}
 use Rattle.network.specs.declared.counts.Counts.{Counts}
-use Rattle.network.specs.declared.span.Span.{Span}
 use Rattle.plan.specs.declared.record.Converter.{Converter}
 use Rattle.plan.specs.Header.{counts_of}
 use Rattle.plan.specs.Plan.{Read}

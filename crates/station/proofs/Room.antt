@@ -1,5 +1,5 @@
 -- The tables of the largest network have room for the book of any.
-use Rattle.std.proofs.Common.{◌≡◌, ◌*◌, ◌≤◌, true, leb, length, Ok, Err, mul-le-mul, arith}
+use Rattle.std.proofs.Common.{◌≡◌, ◌*◌, ◌≤◌, length, Ok, Err, mul-le-mul, arith}
 use Rattle.std.proofs.lemmas.Bool.{and_from, cond-true, le-leb}
 use Rattle.fault.specs.declared.book.BookFault.TheVariants.{BookTable}
 use Rattle.network.specs.declared.counts.Counts.{Counts}

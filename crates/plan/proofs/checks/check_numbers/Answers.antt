@@ -1,4 +1,4 @@
-use Rattle.std.proofs.Common.{◌≡◌, ℕ, sym, ap, ◌∙◌, arith, w16, SFits, to_z, of_z, rules}
+use Rattle.std.proofs.Common.{ℕ, sym, ap, ◌∙◌, arith, w16, SFits, rules}
 use Rattle.fault.specs.declared.plan.RecordFault.TheVariants as fault
 use Rattle.std.proofs.lemmas.Int.{to_z-of_z}
 use Rattle.fault.proofs.Judged.{each_more}

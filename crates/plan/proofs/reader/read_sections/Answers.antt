@@ -1,4 +1,3 @@
-use Rattle.std.proofs.Common.{◌≡◌, sym, ap, ◌∙◌}
 use Rattle.std.proofs.lemmas.Result.{err_from_is_err_and}
 use Rattle.fault.proofs.Judged.{unless_ok, unless_err}
 use Rattle.plan.proofs.Ranks.{bad_pair, bad_record, good_sections}

@@ -1,4 +1,4 @@
-use Rattle.std.proofs.Common.{◌≡◌, ℕ, ◌*◌, ◌<◌, sym, ap, ◌∙◌, subst}
+use Rattle.std.proofs.Common.{ℕ, ◌*◌, ◌<◌, sym, ap, ◌∙◌, subst}
 use Rattle.network.proofs.Filled.{tabled_again}
 use Rattle.plan.proofs.Owed.{owed_at, placed}
 use Rattle.plan.proofs.Told.{tariffs_are, converters_are}

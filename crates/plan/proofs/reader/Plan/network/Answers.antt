@@ -1,4 +1,4 @@
-use Rattle.std.proofs.Common.{◌≡◌, sym, refl, ◌∙◌}
+use Rattle.std.proofs.Common.{sym, refl, ◌∙◌}
 use Rattle.plan.proofs.Owed.{owed, owed_at, ranged, rising, joined, few_converters, proper_converters}
 use Rattle.plan.proofs.Listing.{faithful}
 use Rattle.plan.proofs.Told.{tariffs_are, converters_are, told_is}
