@@ -5,9 +5,9 @@ Each kind is written here from docs/costs.md alone; values are Python's numbers 
 have no end, and are stopped by hand.
 """
 import random
-from pathlib import Path
 
-CRATE = Path(__file__).resolve().parent.parent / "crates" / "cost_cases"
+from written import write
+
 TOP = 4294967295
 MOST = 65535
 
@@ -93,18 +93,4 @@ def model(line):
     return run(kind, number(value), [(w[0], int(w[1:])) for w in rest])
 
 
-def main():
-    given, wanted = [], []
-    for line, reply in BY_HAND:
-        assert model(line) == reply, (line, model(line), reply)
-        given.append(line)
-        wanted.append(reply)
-    for line, reply in cases():
-        given.append(line)
-        wanted.append(reply)
-    (CRATE / "stdin").write_text("".join(line + "\n" for line in given))
-    (CRATE / "stdout").write_text("".join(line + "\n" for line in wanted))
-    print(len(given), "cases")
-
-
-main()
+write("cost_cases", BY_HAND, model, cases())

@@ -6,9 +6,9 @@ GHz by exact decimals, from docs/labels.md alone.
 """
 import random
 from decimal import Decimal
-from pathlib import Path
 
-CRATE = Path(__file__).resolve().parent.parent / "crates" / "label_cases"
+from written import write
+
 GHZ = {1: Decimal("100"), 2: Decimal("50"), 3: Decimal("25"), 4: Decimal("12.5")}
 NUMBERS = [-1000, -999, -500, -256, -11, -1, 0, 1, 3, 5, 255, 256, 999, 1000]
 WRONG = [-32768, -32767, -1002, -1001, 1001, 1002, 32767]
@@ -115,20 +115,9 @@ def cases():
             yield "READ " + hexadecimal(digits), reading(digits)
 
 
-def main():
-    given, wanted = [], []
-    for line, reply in BY_HAND:
-        words = line.split()
-        model = reading(format(int(words[1], 16), "032b")) if words[0] == "READ" else writing(int(words[1]), int(words[2]))
-        assert model == reply, (line, model, reply)
-        given.append(line)
-        wanted.append(reply)
-    for line, reply in cases():
-        given.append(line)
-        wanted.append(reply)
-    (CRATE / "stdin").write_text("".join(line + "\n" for line in given))
-    (CRATE / "stdout").write_text("".join(line + "\n" for line in wanted))
-    print(len(given), "cases")
+def model(line):
+    verb, *words = line.split()
+    return reading(format(int(words[0], 16), "032b")) if verb == "READ" else writing(int(words[0]), int(words[1]))
 
 
-main()
+write("label_cases", BY_HAND, model, cases())
