@@ -10,11 +10,12 @@ use records::state::SpanState;
 impl Book<'_, '_, '_> {
     // The counts of the network that the book was opened for.
     pub fn counts(&self) -> Counts
-        ensures { result ≡ self.now.counts }
+        ensures { result ≡ self.now.extent.counts }
     {
-        self.counts
+        self.extent.counts()
     }
 
+    // The mark that its opener chose.
     pub fn mark(&self) -> u32
         ensures { result ≡ self.now.mark }
     {
@@ -24,14 +25,14 @@ impl Book<'_, '_, '_> {
     // Shuts a span; one that is shut stays so.
     pub fn shut(&mut self, span: u16) -> Result<(), BookFault>
         ensures kept { Kept self.old self.new }
-        ensures answer { result ≡ shut_answer self.old.counts span }
-        ensures tables { tables self.new ≡ shut_after self.old.counts span (tables self.old) }
+        ensures answer { result ≡ shut_answer self.old.extent.counts span }
+        ensures tables { tables self.new ≡ shut_after self.old.extent.counts span (tables self.old) }
     {
-        let span = span as usize;
-        if span >= self.counts.spans {
+        let span = usize::from(span);
+        if span >= self.extent.counts().spans {
             return Err(BookFault::NoSpan);
         }
-        self.spans[span] = SpanState::Shut;
+        self.lent.spans[span] = SpanState::Shut;
         Ok(())
     }
 }

@@ -1,19 +1,20 @@
 ghost use Rattle.std.specs.Prelude.{◌≡◌, Ok};
-ghost use Rattle.network.specs.Limits.{Counted};
 ghost use Rattle.network.specs.Net.{net};
 ghost use Rattle.book.specs.Opening.{room, opened};
-ghost use Rattle.book.specs.State.{tables, lent};
+ghost use Rattle.book.specs.State.{tables, lent, contents, SameTables};
 
 use super::Book;
+use super::lent::Lent;
 use fault::book::BookFault;
 use network::Network;
-use network::counts::Counts;
+use network::extent::Extent;
 use network::table::fill;
 use records::channel::Channel;
 use records::circuit::{CIRCUITS, Circuit};
 use records::state::SpanState;
 
-// Whether the tables have room for a book of the network.
+// Whether the tables have room for a book of the network. They are slices here, since `Lent` would
+// ask for `&mut`.
 pub fn check_tables(
     network: &Network,
     channels: &[Channel],
@@ -22,11 +23,11 @@ pub fn check_tables(
 ) -> Result<(), BookFault>
     ensures { result ≡ room (net network.now).counts (lent channels.now circuits.now spans.now) }
 {
-    let counts = network.counts();
-    if channels.len() < counts.spans * counts.channels {
-        return Err(BookFault::BookTable);
-    }
-    if circuits.len() < CIRCUITS || spans.len() < counts.spans {
+    let extent = network.extent();
+    let short = channels.len() < extent.span_entries()
+        || circuits.len() < CIRCUITS
+        || spans.len() < extent.counts().spans;
+    if short {
         return Err(BookFault::BookTable);
     }
     Ok(())
@@ -34,42 +35,27 @@ pub fn check_tables(
 
 impl<'a, 'b, 'c> Book<'a, 'b, 'c> {
     // The book of a network, all free and open, over tables that have room.
-    pub fn open(
-        network: &Network,
-        mark: u32,
-        channels: &'a mut [Channel],
-        circuits: &'b mut [Circuit],
-        spans: &'c mut [SpanState],
-    ) -> Book<'a, 'b, 'c>
-        requires { room (net network.now).counts (lent channels.old circuits.old spans.old) ≡ Ok tt }
-        ensures counts { result.counts ≡ (net network.now).counts }
+    pub fn open(network: &Network, mark: u32, mut lent: Lent<'a, 'b, 'c>) -> Book<'a, 'b, 'c>
+        requires { room (net network.now).counts (contents lent) ≡ Ok tt }
+        ensures counts { result.extent.counts ≡ (net network.now).counts }
         ensures mark { result.mark ≡ mark }
-        ensures tables { tables result ≡ opened (net network.now).counts (lent channels.old circuits.old spans.old) }
-        ensures names { (result.channels.ghost_name ≡ channels.entry.ghost_name) × (result.circuits.ghost_name ≡ circuits.entry.ghost_name) × (result.spans.ghost_name ≡ spans.entry.ghost_name) }
+        ensures tables { tables result ≡ opened (net network.now).counts (contents lent.entry) }
+        ensures names { SameTables lent.entry result.lent }
     {
-        let counts = network.counts();
-        clear(counts, channels, circuits, spans);
-        Book {
-            counts,
-            mark,
-            channels,
-            circuits,
-            spans,
-        }
+        let extent = network.extent();
+        lent.clear(extent);
+        Book { extent, mark, lent }
     }
 }
 
-// Frees the channels and the circuits that a book needs, and opens its spans.
-fn clear(
-    counts: Counts,
-    channels: &mut [Channel],
-    circuits: &mut [Circuit],
-    spans: &mut [SpanState],
-)
-    requires { Counted counts }
-    ensures { lent channels.new circuits.new spans.new ≡ opened counts (lent channels.old circuits.old spans.old) }
-{
-    fill(channels, counts.spans * counts.channels, Channel::Free);
-    fill(circuits, CIRCUITS, Circuit::Free);
-    fill(spans, counts.spans, SpanState::Open);
+impl Lent<'_, '_, '_> {
+    // Frees the channels and the circuits that a book needs, and opens its spans.
+    fn clear(&mut self, extent: Extent)
+        ensures contents { contents self.new ≡ opened extent.counts (contents self.old) }
+        ensures names { SameTables self.old self.new }
+    {
+        fill(self.channels, extent.span_entries(), None);
+        fill(self.circuits, CIRCUITS, Circuit::Free);
+        fill(self.spans, extent.counts().spans, SpanState::Open);
+    }
 }

@@ -3,13 +3,14 @@
 
 #[cfg(test)]
 mod tests {
+    use book::lent::Lent;
     use book::{Book, check_tables};
     use fault::book::BookFault;
     use fault::report::{Fault, Layer, Report};
     use network::Network;
     use network::step::Step;
     use plan::reader::check as check_plan;
-    use records::channel::Channel;
+    use records::channel::{Channel, Hold};
     use records::circuit::{Circuit, Route};
     use records::state::SpanState;
     use std::process::Abort;
@@ -23,10 +24,10 @@ mod tests {
     ];
 
     // What earlier use left in the tables.
-    const HELD: Channel = Channel::Held {
+    const HELD: Channel = Some(Hold {
         circuit: 9,
         next: None,
-    };
+    });
 
     const LIT: Circuit = Circuit::Lit(Route {
         from: 0,
@@ -40,21 +41,20 @@ mod tests {
 
     // Tables one entry longer than needed, all stale.
     #[derive(Drop)]
-    struct Lent {
+    struct Stale {
         channels: [Channel; 9],
         circuits: [Circuit; 129],
         spans: [SpanState; 5],
     }
 
-    fn open_and_shut(rt: &impl Abort, network: &Network, lent: &mut Lent) -> Result<(), Fail> {
-        check_tables(network, &lent.channels, &lent.circuits, &lent.spans)?;
-        let mut book = Book::open(
-            network,
-            77,
-            &mut lent.channels,
-            &mut lent.circuits,
-            &mut lent.spans,
-        );
+    fn open_and_shut(rt: &impl Abort, network: &Network, stale: &mut Stale) -> Result<(), Fail> {
+        check_tables(network, &stale.channels, &stale.circuits, &stale.spans)?;
+        let lent = Lent {
+            channels: &mut stale.channels,
+            circuits: &mut stale.circuits,
+            spans: &mut stale.spans,
+        };
+        let mut book = Book::open(network, 77, lent);
         assert!(rt;
             book.mark() == 77 && book.counts() == network.counts(),
             "as opened"
@@ -72,19 +72,19 @@ mod tests {
         let plan = check_plan(&SAMPLE, &tariffs, &converters)?;
         plan.load(&mut tariffs, &mut converters);
         let network = plan.network(&tariffs, &converters);
-        let mut lent = Lent {
+        let mut stale = Stale {
             channels: [HELD; 9],
             circuits: [LIT; 129],
             spans: [SpanState::Shut; 5],
         };
-        open_and_shut(&rt, &network, &mut lent)?;
-        let Lent {
+        open_and_shut(&rt, &network, &mut stale)?;
+        let Stale {
             channels,
             circuits,
             spans,
-        } = lent;
+        } = stale;
         assert!(rt;
-            channels[7] == Channel::Free && circuits[127] == Circuit::Free,
+            channels[7] == None && circuits[127] == Circuit::Free,
             "free"
         );
         assert!(rt;

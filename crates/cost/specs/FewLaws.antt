@@ -1,25 +1,23 @@
 -- FEW shows the four laws.
+use Rattle.std.specs.Prelude.{ℕ, ◌+◌}
 use Rattle.std.proofs.Common.{arith}
+use Rattle.std.proofs.Math.Nat.{add-zero}
 use Rattle.std.proofs.lemmas.Bool.Decides.{nat_tests}
 use Rattle.cost.specs.Laws.{Laws, Monotone, Upward}
-use Rattle.cost.specs.Fews.{few_span, few_conversion, few_at_most, few_ops}
+use Rattle.cost.specs.Sums.{plus}
+use Rattle.cost.specs.Fews.{tally, few_at_most, few_ops}
 
-span_monotone : Monotone few_at_most few_span
-span_monotone a b w h e = grind (arith, nat_tests)
+-- however many conversions a step counts
+monotone : (k : ℕ) → Monotone few_at_most (λ v w. tally (v.conversions + k) (plus v.sum w))
+monotone k a b w h e = grind (arith, nat_tests)
 
-conversion_monotone : Monotone few_at_most few_conversion
-conversion_monotone a b w h e = grind (arith, nat_tests)
-
-span_upward : Upward few_at_most few_span
-span_upward a w h = let c = a.counted in let f = a.sum.fits in let s = a.stopped in grind (arith, nat_tests)
-
-conversion_upward : Upward few_at_most few_conversion
-conversion_upward a w h = let c = a.counted in let f = a.sum.fits in grind (arith, nat_tests)
+upward : (k : ℕ) → Upward few_at_most (λ v w. tally (v.conversions + k) (plus v.sum w))
+upward k a w h = grind (arith, nat_tests)
 
 pub few_laws : Laws few_ops
 few_laws = record {
   total = λ a b. grind (arith, nat_tests);
   transitive = λ a b c p q. grind (arith, nat_tests);
-  monotone = (span_monotone, conversion_monotone);
-  upward = (span_upward, conversion_upward);
+  monotone = (simp add-zero at (monotone 0), monotone 1);
+  upward = (simp add-zero at (upward 0), upward 1);
 }

@@ -1,6 +1,8 @@
 -- FEW: conversions counted first, then the tariffs added up.
 use Rattle.std.specs.Prelude.{◌≡◌, ℕ, ◌+◌, min, Bool, cond, ◌&&◌, ◌||◌, List, ◌++◌, codes, decimal, ◌==◌, nat_le, nat_lt}
-use Rattle.std.proofs.Common.{ap, arith, le-ltb}
+use Rattle.std.proofs.Common.{arith}
+use Rattle.std.proofs.Math.Nat.{min-le_right}
+use Rattle.std.proofs.lemmas.Bool.Decides.{nat_tests}
 use Rattle.cost.specs.Laws.{Ops}
 use Rattle.cost.specs.Sums.{largest, fee, plus, fee_text}
 use Rattle.cost.specs.declared.fee.Fee.{Fee}
@@ -14,14 +16,14 @@ abbrev pub beside : ℕ → ℕ → ℕ
 beside n x = cond (nat_lt n most) x largest
 
 pub stops : (n x : ℕ) → min n most ≡ most → min (beside n x) largest ≡ largest
-stops n x e = ap (λ b. min (cond b x largest) largest) (le-ltb n most (omega arith))
+stops n x e = grind (arith, nat_tests)
 
 -- so many conversions and such a sum, both stopped together
 abbrev pub tally : ℕ → Fee → Tally
 tally n s = record {
   conversions = min n most;
   sum = fee (beside n s.amount);
-  counted = omega arith;
+  counted = min-le_right n most;
   stopped = stops n s.amount;
 }
 

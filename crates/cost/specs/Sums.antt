@@ -1,6 +1,6 @@
 -- SUM: the tariffs added up, stopping at the largest number of 32 bits.
 use Rattle.std.specs.Prelude.{ℕ, ◌+◌, min, List, decimal, nat_le}
-use Rattle.std.proofs.Common.{arith}
+use Rattle.std.proofs.Math.Nat.{min-le_right}
 use Rattle.cost.specs.Laws.{Ops}
 use Rattle.cost.specs.declared.fee.Fee.{Fee}
 
@@ -9,7 +9,7 @@ largest = 4294967295
 
 -- an amount, or the largest where the amount is beyond it
 abbrev pub fee : ℕ → Fee
-fee n = record { amount = min n largest; fits = omega arith }
+fee n = record { amount = min n largest; fits = min-le_right n largest }
 
 abbrev pub plus : Fee → ℕ → Fee
 plus v w = fee (v.amount + w)

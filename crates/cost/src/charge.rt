@@ -10,6 +10,7 @@ pub enum Charge {
     Conversion { tariff: u16 },
 }
 
+// The value after one charge.
 pub fn after<K: Kind>(kind: &K, value: K::Value, charge: Charge) -> K::Value
     ensures { result ≡ after K.Kind.ops value charge }
 {
@@ -19,15 +20,20 @@ pub fn after<K: Kind>(kind: &K, value: K::Value, charge: Charge) -> K::Value
     }
 }
 
-// The value after all of these charges, from left to right. The laws of one step hold of them all.
+// The value after all of these charges, from left to right.
+fn added<K: Kind>(kind: &K, value: K::Value, charges: &[Charge]) -> K::Value
+    ensures { result ≡ after_all K.Kind.ops value charges.now }
+{
+    charges
+        .iter()
+        .fold(value, |sum, charge| after(kind, sum, *charge))
+}
+
+// The same. The laws of one step hold of all of them.
 pub fn after_all<K: Kind>(kind: &K, value: K::Value, charges: &[Charge]) -> K::Value
     ensures is { result ≡ after_all K.Kind.ops value charges.now }
     ensures order { Tariffed charges.now → KeepsOrder K.Kind.ops charges.now value result }
     ensures upward { Tariffed charges.now → K.Kind.ops.at_most value result ≡ true }
 {
-    let mut sum = value;
-    for charge in charges {
-        sum = after(kind, sum, *charge);
-    }
-    sum
+    added(kind, value, charges)
 }

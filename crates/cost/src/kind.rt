@@ -13,15 +13,20 @@ pub trait Kind {
 
     ghost text: { Self.Value → List ℕ };
 
+    // The value before any step.
     fn start(&self) -> Self::Value
         ensures { result ≡ ops.start };
 
+    // The value after a span more.
     fn after_span(&self, value: Self::Value, tariff: u16) -> Self::Value
         ensures { result ≡ ops.span value tariff };
 
+    // The value after a conversion more.
     fn after_conversion(&self, value: Self::Value, tariff: u16) -> Self::Value
         ensures { result ≡ ops.conversion value tariff };
 
+    // Whether the first value is at most the second. It has no default by `Ord`, which not every
+    // kind may have.
     fn at_most(&self, a: Self::Value, b: Self::Value) -> bool
         ensures { result ≡ ops.at_most a b };
 

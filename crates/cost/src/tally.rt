@@ -1,13 +1,42 @@
 ghost use Rattle.std.specs.Prelude.{◌≡◌, ◌≤◌};
 
 use super::fee::Fee;
+use std::fmt;
 
 // A value of FEW: how many conversions, and the tariffs added up. Where the count has stopped, so
 // has the sum.
-#[derive(Clone, Copy)]
+#[derive(Clone, Copy, Debug, PartialEq, Eq, PartialOrd, Ord)]
 pub struct Tally {
     pub conversions: u16,
     pub sum: Fee,
     ghost counted: { conversions ≤ 65535 },
     ghost stopped: { conversions ≡ 65535 → sum.amount ≡ 4294967295 },
+}
+
+impl Tally {
+    ghost use Rattle.cost.specs.Fews.{tally};
+
+    // So many conversions and such a sum, both stopped together.
+    pub fn new(conversions: u32, sum: Fee) -> Tally
+        ensures { result ≡ tally conversions sum }
+    {
+        match u16::try_from(conversions) {
+            Ok(conversions) if conversions < u16::MAX => Tally { conversions, sum },
+            _ => Tally {
+                conversions: u16::MAX,
+                sum: Fee::new(u32::MAX),
+            },
+        }
+    }
+}
+
+impl fmt::Display for Tally {
+    ghost use Rattle.std.specs.Prelude.{Some};
+    ghost use Rattle.cost.specs.Fews.{tally_text};
+
+    ghost output = { λ v. Some (tally_text v) };
+
+    fn fmt<W: fmt::Write>(&self, f: &mut fmt::Formatter<W>) -> fmt::Result {
+        write!(f, "{}+{}", self.conversions, self.sum)
+    }
 }

@@ -1,15 +1,9 @@
-ghost use Rattle.std.specs.Prelude.{◌≡◌, max, decimal};
+ghost use Rattle.std.specs.Prelude.{decimal};
 ghost use Rattle.cost.specs.Worsts.{worst_ops};
 ghost use Rattle.cost.specs.WorstLaws.{worst_laws};
 ghost use Rattle.std.proofs.Common.{rules};
 
 use super::kind::Kind;
-
-fn larger(value: u16, tariff: u16) -> u16
-    ensures { result ≡ max value tariff }
-{
-    value.max(tariff)
-}
 
 // The kind WORST: the largest tariff.
 #[derive(Clone, Copy)]
@@ -31,11 +25,11 @@ impl Kind for Worst {
     }
 
     fn after_span(&self, value: u16, tariff: u16) -> u16 {
-        larger(value, tariff)
+        value.max(tariff)
     }
 
     fn after_conversion(&self, value: u16, tariff: u16) -> u16 {
-        larger(value, tariff)
+        self.after_span(value, tariff)
     }
 
     fn at_most(&self, a: u16, b: u16) -> bool {

@@ -12,9 +12,34 @@ use cost::sum::Sum;
 use cost::tally::Tally;
 use cost::worst::Worst;
 use std::alloc::Global;
-use std::io;
 use std::io::{BufRead, BufReader, BufWriter, Write};
 
+// A kind whose values can be read from text.
+trait Readable: Kind {
+    // The value that a word says.
+    fn value(word: &str) -> anyhow::Result<Self::Value>;
+}
+
+impl Readable for Sum {
+    fn value(word: &str) -> anyhow::Result<Fee> {
+        Ok(Fee::new(word.parse::<u32>()?))
+    }
+}
+
+impl Readable for Few {
+    fn value(word: &str) -> anyhow::Result<Tally> {
+        let (count, sum) = word.split_once('+').unwrap_or(("", ""));
+        Ok(Tally::new(count.parse::<u32>()?, Sum::value(sum)?))
+    }
+}
+
+impl Readable for Worst {
+    fn value(word: &str) -> anyhow::Result<u16> {
+        Ok(word.parse::<u16>()?)
+    }
+}
+
+// The charge that a word says.
 fn charge(word: &str) -> anyhow::Result<Charge> {
     if let Some(digits) = word.strip_prefix('S') {
         let tariff = digits.parse::<u16>()?;
@@ -24,6 +49,7 @@ fn charge(word: &str) -> anyhow::Result<Charge> {
     Ok(Charge::Conversion { tariff })
 }
 
+// The charges of a line's rest.
 fn charges(heap: Global, words: &str) -> anyhow::Result<Vec<Charge>> {
     let mut charges = Vec::new(heap);
     for word in words.split(' ') {
@@ -32,66 +58,42 @@ fn charges(heap: Global, words: &str) -> anyhow::Result<Vec<Charge>> {
     Ok(charges)
 }
 
-fn fee(word: &str) -> anyhow::Result<Fee> {
-    Ok(Fee::new(word.parse::<u32>()?))
-}
-
-fn tally(word: &str) -> anyhow::Result<Tally> {
-    let (count, sum) = word.split_once('+').unwrap_or(("", ""));
-    Ok(Tally::new(count.parse::<u32>()?, fee(sum)?))
-}
-
-fn reckoned<W: Write, K: Kind>(
+// Reckons the rest of a line of this kind.
+fn reckon<W: Write, K: Readable>(
     out: &mut W,
     heap: Global,
     kind: &K,
-    value: K::Value,
     words: &str,
 ) -> anyhow::Result<()> {
-    let charges = charges(heap, words)?;
-    let start = kind.start();
-    let after = after_all(kind, value, charges.as_slice());
-    writeln!(out, "{start} {after}")?;
-    Ok(())
-}
-
-fn compared<W: Write, K: Kind>(out: &mut W, kind: &K, a: K::Value, b: K::Value) -> io::Result<()> {
-    let most = kind.at_most(a, b);
-    writeln!(out, "{a} {most} {b}")
-}
-
-fn reckon<W: Write>(
-    out: &mut W,
-    heap: Global,
-    kind: &str,
-    value: &str,
-    rest: &str,
-) -> anyhow::Result<()> {
-    match kind {
-        "SUM" => reckoned(out, heap, &Sum, fee(value)?, rest),
-        "FEW" => reckoned(out, heap, &Few, tally(value)?, rest),
-        _ => reckoned(out, heap, &Worst, value.parse::<u16>()?, rest),
-    }
-}
-
-fn compare<W: Write>(out: &mut W, kind: &str, a: &str, b: &str) -> anyhow::Result<()> {
-    match kind {
-        "SUM" => compared(out, &Sum, fee(a)?, fee(b)?)?,
-        "FEW" => compared(out, &Few, tally(a)?, tally(b)?)?,
-        _ => compared(out, &Worst, a.parse::<u16>()?, b.parse::<u16>()?)?,
+    let (value, rest) = words.split_once(' ').unwrap_or(("", ""));
+    let value = K::value(value)?;
+    match rest.strip_prefix("MOST ") {
+        Some(other) => {
+            let other = K::value(other)?;
+            let most = kind.at_most(value, other);
+            writeln!(out, "{value} {most} {other}")?;
+        }
+        None => {
+            let charges = charges(heap, rest)?;
+            let start = kind.start();
+            let after = after_all(kind, value, charges.as_slice());
+            writeln!(out, "{start} {after}")?;
+        }
     }
     Ok(())
 }
 
+// Reckons a line.
 fn run<W: Write>(out: &mut W, heap: Global, line: &str) -> anyhow::Result<()> {
     let (kind, rest) = line.split_once(' ').unwrap_or(("", ""));
-    let (value, rest) = rest.split_once(' ').unwrap_or(("", ""));
-    match rest.strip_prefix("MOST ") {
-        Some(other) => compare(out, kind, value, other),
-        None => reckon(out, heap, kind, value, rest),
+    match kind {
+        "SUM" => reckon(out, heap, &Sum, rest),
+        "FEW" => reckon(out, heap, &Few, rest),
+        _ => reckon(out, heap, &Worst, rest),
     }
 }
 
+// Line after line. Each program has its own: a shared one would be public and could promise nothing.
 fn main(rt: HostRuntime) -> anyhow::Result<()> {
     let heap = rt.alloc();
     let mut out = BufWriter::new(heap, rt.stdout())?;

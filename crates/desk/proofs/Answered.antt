@@ -2,6 +2,7 @@
 use Rattle.std.proofs.Common.{◌≡◌, ℕ, Bool, true, false, cond, eqb, List, [], ◌∷◌, ◌++◌, length, fold, sym, refl, ap, ◌∙◌, arith}
 use Rattle.std.specs.List.{concat as whole}
 use Rattle.std.proofs.lemmas.List.{append-nil, append_assoc}
+use Rattle.std.proofs.lemmas.List.Sums.{fold-append}
 use Rattle.std.proofs.lemmas.Bool.{cond-false, ne_eqb}
 use Rattle.network.specs.declared.counts.Counts.{Counts}
 use Rattle.book.specs.State.{Tables}
@@ -9,9 +10,9 @@ use Rattle.ticket.proofs.Reading.{long_line}
 use Rattle.desk.specs.Holding.{kept}
 use Rattle.desk.specs.Replies.{text}
 use Rattle.desk.specs.Serving.{served, served_after, reply_of, after_line}
-use Rattle.desk.specs.Feeding.{Desk, desk, replied, turned, fed, said, ended, said_last}
+use Rattle.desk.specs.Feeding.{Desk, desk, replied, turned, next, fed, said, ended, said_last}
 use Rattle.desk.specs.Inputs.{onto, lines, Unbroken, SplitAtTens, replies, after_lines, said_to, AnsweredByLines}
-use Rattle.desk.proofs.Going.{fed-append, said-append}
+use Rattle.desk.proofs.Going.{said-append}
 use Rattle.desk.proofs.Lines.{kept_push}
 
 -- bytes that stand before some lines
@@ -37,7 +38,7 @@ lines_after (x ∷ p) bs h = cond-false _ ([] ∷ lines (p ++ bs)) (onto x (line
 
 pub split_at_tens : SplitAtTens
 split_at_tens = record {
-  first = λ line rest h. lines_after line (10 ∷ rest) h ∙ before_line line [] (lines rest) ∙ ap (λ (l : List ℕ). l ∷ lines rest) (append-nil line);
+  first = λ line rest h. lines_after line (10 ∷ rest) h ∙ before_line line [] (lines rest) ∙ simp append-nil;
   last = λ b line h. ap lines (sym (append-nil (b ∷ line))) ∙ lines_after (b ∷ line) [] h ∙ before_none b line;
   none = refl;
 }
@@ -58,10 +59,7 @@ module _ (n : Counts) where
   run_said : (bs p : List ℕ) (t : Tables) → said n (desk t (kept p)) bs ++ said_last n (fed n (desk t (kept p)) bs) ≡ replies n (before p (lines bs))
   run_said [] [] t = refl
   run_said [] (x ∷ p) t =
-      cond-false _ [] (replied n (kept (x ∷ p))) (begun x p)
-      ∙ replied_kept (x ∷ p)
-      ∙ sym (append-nil (replied n (x ∷ p)))
-      ∙ ap (replies n) (sym (before_none x p))
+      cond-false _ [] (replied n (kept (x ∷ p))) (begun x p) ∙ replied_kept (x ∷ p) ∙ rw (before_none x p, append-nil)
   run_said (b ∷ bs) p t =
       let s : Desk = desk t (kept p) in
       let s' : Bool → Desk = λ v. cond v (turned n s) (desk t (kept (kept p ++ b ∷ []))) in
@@ -99,14 +97,14 @@ module _ (n : Counts) where
   -- chunk after chunk
   chunks_fed : (s : Desk) (chunks : List (List ℕ)) → fold (fed n) s chunks ≡ fed n s (whole chunks)
   chunks_fed s [] = refl
-  chunks_fed s (c ∷ cs) = chunks_fed (fed n s c) cs ∙ sym (fed-append n s c (whole cs))
+  chunks_fed s (c ∷ cs) = chunks_fed (fed n s c) cs ∙ sym (fold-append (next n) s c (whole cs))
 
   chunks_said : (s : Desk) (chunks : List (List ℕ)) → said_to n s chunks ≡ said n s (whole chunks) ++ said_last n (fed n s (whole chunks))
   chunks_said s [] = refl
   chunks_said s (c ∷ cs) =
       ap (λ (l : List ℕ). said n s c ++ l) (chunks_said (fed n s c) cs)
       ∙ sym (append_assoc (said n s c) (said n (fed n s c) (whole cs)) (said_last n (fed n (fed n s c) (whole cs))))
-      ∙ (λ k. sym (said-append n s c (whole cs)) k ++ said_last n (sym (fed-append n s c (whole cs)) k))
+      ∙ (λ k. sym (said-append n s c (whole cs)) k ++ said_last n (sym (fold-append (next n) s c (whole cs)) k))
 
 pub answered_by_lines : AnsweredByLines
 answered_by_lines n t chunks = record {

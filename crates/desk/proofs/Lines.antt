@@ -5,11 +5,11 @@ use Rattle.std.proofs.lemmas.Bool.{cases_lt}
 use Rattle.desk.specs.Holding.{kept}
 
 -- a byte for which there is room
-pub room_for : (bytes bytes' : List ℕ) (n n' b : ℕ) → length bytes ≡ 81 → n < 81 → bytes' ≡ set bytes n b → n' ≡ n + 1 → take n' bytes' ≡ kept (take n bytes ++ b ∷ [])
-room_for bytes bytes' n n' b long h e f =
+pub room_for : (bytes : List ℕ) (n b : ℕ) → length bytes ≡ 81 → n < 81 → take (n + 1) (set bytes n b) ≡ kept (take n bytes ++ b ∷ [])
+room_for bytes n b long h =
     let l = length-take-le n bytes (omega arith) in
     let p = length_push (take n bytes) b in
-    (λ k. take (f k) (e k)) ∙ take_more_set bytes n b (omega arith) ∙ sym (take_all 81 (take n bytes ++ b ∷ []) (omega arith))
+    take_more_set bytes n b (omega arith) ∙ sym (take_all 81 (take n bytes ++ b ∷ []) (omega arith))
 
 -- a byte past the first 81
 pub no_room : (bytes : List ℕ) (n b : ℕ) → length bytes ≡ 81 → 81 ≤ n → n ≤ 81 → take n bytes ≡ kept (take n bytes ++ b ∷ [])

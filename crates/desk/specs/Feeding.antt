@@ -16,6 +16,7 @@ pub record Desk : Type 0 where
 abbrev pub desk : Tables → List ℕ → Desk
 desk t line = record { tables = t; line = line }
 
+-- what the desk has with this book and this line
 abbrev pub desk_of : Book → Line → Desk
 desk_of b l = desk (tables b) (held l)
 

@@ -8,12 +8,15 @@ use super::serving::answer;
 use book::Book;
 use std::fmt;
 
+// Book, line and text travel together here. They are no struct: one that is made of three `&mut` in
+// place is not covered, and of one that a function makes the book's last value is not known.
+
 // Answers the line, writes the reply and a byte 10, and begins another line.
 fn end_line(book: &mut Book<'_, '_, '_>, line: &mut Line, out: &mut String) -> fmt::Result
     ensures kept { Kept book.old book.new }
-    ensures tables { tables book.new ≡ (turned book.old.counts (desk_of book.old line.old)).tables }
-    ensures desk { OnOk result (desk_of book.new line.new ≡ turned book.old.counts (desk_of book.old line.old)) }
-    ensures out { OnOk result (string_bytes out.new ≡ string_bytes out.old ++ replied book.old.counts (held line.old)) }
+    ensures tables { tables book.new ≡ (turned book.old.extent.counts (desk_of book.old line.old)).tables }
+    ensures desk { OnOk result (desk_of book.new line.new ≡ turned book.old.extent.counts (desk_of book.old line.old)) }
+    ensures out { OnOk result (string_bytes out.new ≡ string_bytes out.old ++ replied book.old.extent.counts (held line.old)) }
 {
     let reply = answer(book, line.bytes());
     writeln!(out, "{reply}")?;
@@ -29,9 +32,9 @@ fn take_byte(
     out: &mut String,
 ) -> fmt::Result
     ensures kept { Kept book.old book.new }
-    ensures tables { tables book.new ≡ (next book.old.counts (desk_of book.old line.old) byte).tables }
-    ensures desk { OnOk result (desk_of book.new line.new ≡ next book.old.counts (desk_of book.old line.old) byte) }
-    ensures out { OnOk result (string_bytes out.new ≡ string_bytes out.old ++ says book.old.counts (desk_of book.old line.old) byte) }
+    ensures tables { tables book.new ≡ (next book.old.extent.counts (desk_of book.old line.old) byte).tables }
+    ensures desk { OnOk result (desk_of book.new line.new ≡ next book.old.extent.counts (desk_of book.old line.old) byte) }
+    ensures out { OnOk result (string_bytes out.new ≡ string_bytes out.old ++ says book.old.extent.counts (desk_of book.old line.old) byte) }
 {
     if byte == b'\n' {
         return end_line(book, line, out);
@@ -48,9 +51,9 @@ pub fn feed(
     out: &mut String,
 ) -> fmt::Result
     ensures kept { Kept book.old book.new }
-    ensures tables { InPart book.old.counts (desk_of book.old line.old) chunk.now (tables book.new) }
-    ensures desk { OnOk result (desk_of book.new line.new ≡ fed book.old.counts (desk_of book.old line.old) chunk.now) }
-    ensures out { OnOk result (string_bytes out.new ≡ string_bytes out.old ++ said book.old.counts (desk_of book.old line.old) chunk.now) }
+    ensures tables { InPart book.old.extent.counts (desk_of book.old line.old) chunk.now (tables book.new) }
+    ensures desk { OnOk result (desk_of book.new line.new ≡ fed book.old.extent.counts (desk_of book.old line.old) chunk.now) }
+    ensures out { OnOk result (string_bytes out.new ≡ string_bytes out.old ++ said book.old.extent.counts (desk_of book.old line.old) chunk.now) }
 {
     for byte in chunk {
         take_byte(book, line, *byte, out)?;
@@ -61,9 +64,9 @@ pub fn feed(
 // The end of the input: a last line that lacks its byte 10 is answered.
 pub fn finish(book: &mut Book<'_, '_, '_>, line: &mut Line, out: &mut String) -> fmt::Result
     ensures kept { Kept book.old book.new }
-    ensures tables { tables book.new ≡ (ended book.old.counts (desk_of book.old line.old)).tables }
-    ensures desk { OnOk result (desk_of book.new line.new ≡ ended book.old.counts (desk_of book.old line.old)) }
-    ensures out { OnOk result (string_bytes out.new ≡ string_bytes out.old ++ said_last book.old.counts (desk_of book.old line.old)) }
+    ensures tables { tables book.new ≡ (ended book.old.extent.counts (desk_of book.old line.old)).tables }
+    ensures desk { OnOk result (desk_of book.new line.new ≡ ended book.old.extent.counts (desk_of book.old line.old)) }
+    ensures out { OnOk result (string_bytes out.new ≡ string_bytes out.old ++ said_last book.old.extent.counts (desk_of book.old line.old)) }
 {
     if line.is_empty() {
         return Ok(());

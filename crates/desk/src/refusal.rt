@@ -16,6 +16,7 @@ pub enum DeskFault {
 impl From<TicketFault> for DeskFault {
     ghost from_gives = { λ x y. y ≡ desk.Ticket x };
 
+    // A line that is no ticket.
     fn from(value: TicketFault) -> DeskFault {
         DeskFault::Ticket(value)
     }
@@ -24,6 +25,7 @@ impl From<TicketFault> for DeskFault {
 impl From<BookFault> for DeskFault {
     ghost from_gives = { λ x y. y ≡ desk.Book x };
 
+    // A call that the book refuses.
     fn from(value: BookFault) -> DeskFault {
         DeskFault::Book(value)
     }
@@ -32,6 +34,7 @@ impl From<BookFault> for DeskFault {
 impl Fault for DeskFault {
     ghost told = { of_desk };
 
+    // The report of the layer that refuses.
     fn report(&self) -> Report {
         match *self {
             DeskFault::Ticket(fault) => fault.report(),

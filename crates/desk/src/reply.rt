@@ -4,7 +4,8 @@ ghost use Rattle.desk.specs.Replies.{text, no_plan};
 use fault::report::Report;
 use std::fmt;
 
-// What the desk says to one ticket.
+// What the desk says to one ticket. It is no `Result`, since it is displayed as one value, which a
+// `Result` can't be.
 #[derive(Clone, Copy, PartialEq, Eq, Debug)]
 pub enum Reply {
     // the span is shut
@@ -19,11 +20,7 @@ impl fmt::Display for Reply {
     fn fmt<W: fmt::Write>(&self, f: &mut fmt::Formatter<W>) -> fmt::Result {
         match *self {
             Reply::Shut { span } => write!(f, "SHUT {span}"),
-            Reply::No { report } => {
-                let number = report.number;
-                let place = report.place;
-                write!(f, "NO {number} {place}")
-            }
+            Reply::No { report } => write!(f, "NO {report}"),
         }
     }
 }
@@ -38,8 +35,7 @@ impl fmt::Display for PlanRefusal {
     ghost output = { λ p. Some (no_plan p.report) };
 
     fn fmt<W: fmt::Write>(&self, f: &mut fmt::Formatter<W>) -> fmt::Result {
-        let number = self.report.number;
-        let place = self.report.place;
-        write!(f, "PLAN {number} {place}")
+        let report = self.report;
+        write!(f, "PLAN {report}")
     }
 }

@@ -12,8 +12,8 @@ use ticket::{Ticket, read};
 // Reads a line as a ticket, and makes the call that it asks for.
 fn serve(book: &mut Book<'_, '_, '_>, line: &[u8]) -> Result<Reply, DeskFault>
     ensures kept { Kept book.old book.new }
-    ensures answer { result ≡ served book.old.counts (ticket_of line.now) }
-    ensures tables { tables book.new ≡ served_after book.old.counts (ticket_of line.now) (tables book.old) }
+    ensures answer { result ≡ served book.old.extent.counts (ticket_of line.now) }
+    ensures tables { tables book.new ≡ served_after book.old.extent.counts (ticket_of line.now) (tables book.old) }
 {
     match read(line)? {
         Ticket::Shut { span } => {
@@ -26,8 +26,8 @@ fn serve(book: &mut Book<'_, '_, '_>, line: &[u8]) -> Result<Reply, DeskFault>
 // The reply to a line of any bytes and any length.
 pub fn answer(book: &mut Book<'_, '_, '_>, line: &[u8]) -> Reply
     ensures kept { Kept book.old book.new }
-    ensures reply { result ≡ reply_to book.old.counts line.now }
-    ensures tables { tables book.new ≡ after_line book.old.counts line.now (tables book.old) }
+    ensures reply { result ≡ reply_to book.old.extent.counts line.now }
+    ensures tables { tables book.new ≡ after_line book.old.extent.counts line.now (tables book.old) }
 {
     match serve(book, line) {
         Ok(reply) => reply,

@@ -3,18 +3,13 @@ use Rattle.std.proofs.Common.{◌≡◌, ℕ, zero, suc, ◌+◌, ◌<◌, Bool,
 use Rattle.std.proofs.lemmas.List.FromFn.{map-range_with_len_more}
 use Rattle.std.proofs.lemmas.Bool.{cond-true, cond-false}
 use Rattle.std.specs.List.{range_with_len}
-use Rattle.std.specs.Option.{option_map}
+use Rattle.std.specs.Option.{option_map, option_or}
 use Rattle.fault.specs.Judging.{Judgement, first, each, inside, unless}
 
--- the first fault of two lists of judgements
-abbrev pub or_else : {F : Type 0} → Option F → Option F → Option F
-or_else None r = r
-or_else (Some f) r = Some f
-
-pub first-append : {F : Type 0} (xs ys : List (Judgement F)) → first (xs ++ ys) ≡ or_else (first xs) (first ys)
+pub first-append : {F : Type 0} (xs ys : List (Judgement F)) → first (xs ++ ys) ≡ option_or (first xs) (first ys)
 first-append [] ys = refl
 first-append (x ∷ xs) ys =
-    elim x.sound as (λ b. cond b (first (xs ++ ys)) (Some x.fault) ≡ or_else (cond b (first xs) (Some x.fault)) (first ys)) [ true ↦ first-append xs ys | false ↦ refl ]
+    elim x.sound as (λ b. cond b (first (xs ++ ys)) (Some x.fault) ≡ option_or (cond b (first xs) (Some x.fault)) (first ys)) [ true ↦ first-append xs ys | false ↦ refl ]
 
 pub first-inside : {F G : Type 0} (f : F → G) (xs : List (Judgement F)) → first (inside f xs) ≡ option_map f (first xs)
 first-inside f [] = refl
@@ -24,12 +19,12 @@ first-inside f (x ∷ xs) =
 -- a judgement that is sound leaves what comes after it
 pub cond_none : {F : Type 0} (b : Bool) (f : F) (r : Option F) → cond b r (Some f) ≡ None → (b ≡ true) × (r ≡ None)
 cond_none true f r e = (refl, e)
-cond_none false f r e = let z : ◌≡◌ {A = ℕ} 0 1 = cc in absurd (omega arith)
+cond_none false f r e = cc
 
 -- judgements counted up from a: one more is sound
 more_from : {F : Type 0} (f : ℕ → Judgement F) (a n : ℕ) → first (map f (range_with_len a n)) ≡ None → (f (a + n)).sound ≡ true → first (map f (range_with_len a (n + 1))) ≡ None
 more_from f a n e s =
-    ap first (map-range_with_len_more f a n (a + n) refl) ∙ first-append (map f (range_with_len a n)) (f (a + n) ∷ []) ∙ ap (λ r. or_else r (first (f (a + n) ∷ []))) e ∙ cond-true _ _ _ s
+    ap first (map-range_with_len_more f a n (a + n) refl) ∙ first-append (map f (range_with_len a n)) (f (a + n) ∷ []) ∙ ap (λ r. option_or r (first (f (a + n) ∷ []))) e ∙ cond-true _ _ _ s
 
 -- and the first that is not sound
 at_from : {F : Type 0} (f : ℕ → Judgement F) (a i n : ℕ) → i < n → first (map f (range_with_len a i)) ≡ None → (f (a + i)).sound ≡ false → first (map f (range_with_len a n)) ≡ Some (f (a + i)).fault
@@ -49,32 +44,16 @@ pub each_at : {F : Type 0} (f : ℕ → Judgement F) (i n : ℕ) → i < n → f
 each_at f i n h e s = let z : 0 + i ≡ i = omega arith in at_from f 0 i n h e (ap (λ j. (f j).sound) z ∙ s) ∙ ap (λ j. Some (f j).fault) z
 
 pub append_some : {F : Type 0} (xs ys : List (Judgement F)) (f : F) → first xs ≡ Some f → first (xs ++ ys) ≡ Some f
-append_some xs ys f e = first-append xs ys ∙ ap (λ r. or_else r (first ys)) e
+append_some xs ys f e = first-append xs ys ∙ ap (λ r. option_or r (first ys)) e
 
 pub append_none : {F : Type 0} (xs ys : List (Judgement F)) → first xs ≡ None → first (xs ++ ys) ≡ first ys
-append_none xs ys e = first-append xs ys ∙ ap (λ r. or_else r (first ys)) e
-
--- both parts of a list of judgements are sound where all of it is
-pub both_none : {F : Type 0} (xs ys : List (Judgement F)) → first (xs ++ ys) ≡ None → (first xs ≡ None) × (first ys ≡ None)
-both_none [] ys e = (refl, e)
-both_none (x ∷ xs) ys e =
-    let p = cond_none x.sound x.fault (first (xs ++ ys)) e in
-    let q = both_none xs ys p.1 in
-    (cond-true _ _ _ p.0 ∙ q.0, q.1)
+append_none xs ys e = first-append xs ys ∙ ap (λ r. option_or r (first ys)) e
 
 pub inside_some : {F G : Type 0} (g : F → G) (xs : List (Judgement F)) (f : F) → first xs ≡ Some f → first (inside g xs) ≡ Some (g f)
 inside_some g xs f e = first-inside g xs ∙ ap (option_map g) e
 
 pub inside_none : {F G : Type 0} (g : F → G) (xs : List (Judgement F)) → first xs ≡ None → first (inside g xs) ≡ None
 inside_none g xs e = first-inside g xs ∙ ap (option_map g) e
-
--- the judgements inside others are sound where these are
-mapped_none : {F G : Type 0} (g : F → G) (r : Option F) → option_map g r ≡ None → r ≡ None
-mapped_none g None e = refl
-mapped_none g (Some f) e = let z : ◌≡◌ {A = ℕ} 0 1 = cc in absurd (omega arith)
-
-pub inside_sound : {F G : Type 0} (g : F → G) (xs : List (Judgement F)) → first (inside g xs) ≡ None → first xs ≡ None
-inside_sound g xs e = mapped_none g (first xs) (sym (first-inside g xs) ∙ e)
 
 -- each judgement is sound where all are
 sound_from : {F : Type 0} (f : ℕ → Judgement F) (a n i : ℕ) → first (map f (range_with_len a n)) ≡ None → i < n → (f (a + i)).sound ≡ true
@@ -90,8 +69,8 @@ each_sound f n i e h = let z : 0 + i ≡ i = omega arith in ap (λ j. (f j).soun
 -- what an answer tells of the first fault
 pub unless_ok : {F : Type 0} (r : Option F) (x : Unit {0}) → ◌≡◌ {A = Result (Unit {0}) F} (Ok x) (unless r tt) → r ≡ None
 unless_ok None x e = refl
-unless_ok (Some f) x e = let z : ◌≡◌ {A = ℕ} 0 1 = cc in absurd (omega arith)
+unless_ok (Some f) x e = cc
 
 pub unless_err : {F : Type 0} (r : Option F) (f : F) → ◌≡◌ {A = Result (Unit {0}) F} (Err f) (unless r tt) → r ≡ Some f
-unless_err None f e = let z : ◌≡◌ {A = ℕ} 0 1 = cc in absurd (omega arith)
+unless_err None f e = cc
 unless_err (Some g) f e = let p : f ≡ g = cc in ap (λ x. Some x) (sym p)

@@ -40,6 +40,7 @@ pub enum LoadFault {
     Book(BookFault),
 }
 
+// Each fault turns into the next by hand: a `From` that `thiserror` derives has no contract.
 impl From<RecordFault> for SectionFault {
     ghost from_gives = { λ x y. y ≡ section.Record x };
 

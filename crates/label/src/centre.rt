@@ -2,30 +2,27 @@ ghost use Rattle.std.specs.Prelude.{◌≡◌, ◌≤◌, true, pos, unsigned_ab
 ghost use Rattle.network.specs.Limits.{in_range};
 ghost use Rattle.label.specs.Labels.{spacing_of, centre_of};
 
-// The centre of number 0: 193.1 THz.
-const MIDDLE: u32 = 193_100_000;
+use network::spacing::Spacing;
 
-fn spacing_of(code: u8) -> u32
-    ensures value { result ≡ spacing_of code }
-    ensures upper_bound { result ≤ 100000 }
+// The centre of number 0: 193.1 THz.
+const MIDDLE: i32 = 193_100_000;
+
+// A spacing in MHz.
+fn spacing_of(spacing: Spacing) -> i32
+    ensures { result ≡ pos (spacing_of spacing) }
 {
-    match code {
-        1 => 100_000,
-        2 => 50_000,
-        3 => 25_000,
-        4 => 12_500,
-        _ => 0,
+    match spacing {
+        Spacing::Ghz100 => 100_000,
+        Spacing::Ghz50 => 50_000,
+        Spacing::Ghz25 => 25_000,
+        Spacing::Ghz12_5 => 12_500,
     }
 }
 
-pub fn centre_of(code: u8, n: i16) -> u32
-    requires ranged { in_range n ≡ true }
-    ensures { result ≡ unsigned_abs (centre_of code n) }
+// The centre of a number n, in MHz.
+pub fn centre_of(spacing: Spacing, n: i16) -> u32
+    requires { in_range n ≡ true }
+    ensures { result ≡ unsigned_abs (centre_of spacing n) }
 {
-    let shift = u32::from(n.unsigned_abs()) * spacing_of(code);
-    if n < 0 {
-        MIDDLE - shift
-    } else {
-        MIDDLE + shift
-    }
+    (MIDDLE + i32::from(n) * spacing_of(spacing)).unsigned_abs()
 }

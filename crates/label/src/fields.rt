@@ -1,46 +1,36 @@
-ghost use Rattle.std.specs.Prelude.{◌≡◌, ◌<◌, true};
-ghost use Rattle.label.specs.Fields.{field as field_at, part, grid as grid_field, spacing as spacing_field, identifier as identifier_field};
-ghost use Rattle.label.specs.Labels.{coded, number_in, written};
+ghost use Rattle.std.specs.Prelude.{◌≡◌, ◌<◌, ◌%◌, ◌^◌};
+ghost use Rattle.label.specs.Fields.{field, part, placed};
 
-// The field of that width whose lowest bit stands at that place.
-fn field(bits: u32, at: u32, width: u32) -> u32
-    requires inside { at < 32 }
-    requires narrow { width < 32 }
-    ensures { result ≡ part (field_at at width) bits }
-{
-    bits >> at & (1 << width) - 1
+// A field of a label: how far its lowest bit stands from the label's, and how many bits it has.
+#[derive(Clone, Copy)]
+pub struct Field {
+    at: u32,
+    width: u32,
+    ghost inside: { at < 32 },
+    ghost narrow: { width < 32 },
 }
 
-pub fn grid(bits: u32) -> u32
-    ensures { result ≡ part grid_field bits }
-{
-    field(bits, 29, 3)
-}
+pub const GRID: Field = Field { at: 29, width: 3 };
 
-// The spacing code.
-pub fn spacing(bits: u32) -> u8
-    ensures { result ≡ part spacing_field bits }
-{
-    field(bits, 25, 4) as u8
-}
+pub const SPACING: Field = Field { at: 25, width: 4 };
 
-pub fn identifier(bits: u32) -> u32
-    ensures { result ≡ part identifier_field bits }
-{
-    field(bits, 16, 9)
-}
+pub const IDENTIFIER: Field = Field { at: 16, width: 9 };
 
-// The number n, in two's complement.
-pub fn number(bits: u32) -> i16
-    ensures { result ≡ number_in bits }
-{
-    (field(bits, 0, 16) as u16).cast_signed()
-}
+pub const NUMBER: Field = Field { at: 0, width: 16 };
 
-// Grid 1, the spacing code, Identifier 0 and the number n.
-pub fn joined(code: u8, n: i16) -> u32
-    requires coded { coded code ≡ true }
-    ensures { result ≡ written code n }
-{
-    1 << 29 | u32::from(code) << 25 | u32::from(n.cast_unsigned())
+impl Field {
+    // What the field of a label holds.
+    #[tactic(auto, using(std::proofs::lemmas::Grind::common_steps, std::proofs::lemmas::Nat::and_mask))]
+    pub fn part(self, bits: u32) -> u32
+        ensures { result ≡ part (field self.at self.width) bits }
+    {
+        bits >> self.at & (1 << self.width) - 1
+    }
+
+    // A number put into the field.
+    pub fn placed(self, x: u32) -> u32
+        ensures { result ≡ placed (field self.at self.width) x % 2 ^ 32 }
+    {
+        x << self.at
+    }
 }

@@ -5,60 +5,84 @@
 
 use fault::label::LabelFault;
 use fault::report::Fault;
-use label::Label;
+use label::{Label, Reading};
 use std::io;
 use std::io::{BufRead, BufReader, BufWriter, Write};
+use std::str::FromStr;
 
+// What a line asks for.
+#[derive(Clone, Copy)]
+enum Request {
+    Read(Label),
+    Write { code: u8, n: i16 },
+}
+
+impl FromStr for Request {
+    type Err = anyhow::Error;
+
+    // Whatever does not begin with `READ` asks for a label to be written.
+    fn from_str(line: &str) -> anyhow::Result<Request> {
+        let mut words = line.split(' ');
+        let verb = words.next();
+        let first = words.next().unwrap_or("");
+        if verb == Some("READ") {
+            let bits = u32::from_str_radix(first, 16)?;
+            return Ok(Request::Read(Label { bits }));
+        }
+        let n = words.next().unwrap_or("").parse::<i16>()?;
+        let code = first.parse::<u8>()?;
+        Ok(Request::Write { code, n })
+    }
+}
+
+// Prints a refusal.
 fn refused<W: Write>(out: &mut W, fault: LabelFault) -> io::Result<()> {
     let report = fault.report();
-    let number = report.number;
-    let place = report.place;
     let layer = report.layer;
-    writeln!(out, "NO {number} {place} {layer:?}")
+    writeln!(out, "NO {report} {layer:?}")
 }
 
+// What a label tells, and the label that this is written back as.
+fn told(label: Label) -> Result<(Reading, Label), LabelFault> {
+    let reading = label.read()?;
+    let again = Label::write(reading.spacing.code(), reading.n)?;
+    Ok((reading, again))
+}
+
+// Prints what a label tells.
 fn read<W: Write>(out: &mut W, label: Label) -> io::Result<()> {
-    let reading = match label.read() {
-        Ok(reading) => reading,
+    let (reading, again) = match told(label) {
+        Ok(both) => both,
         Err(fault) => return refused(out, fault),
     };
-    let code = reading.code;
+    let code = reading.spacing.code();
     let n = reading.n;
     let centre = reading.centre;
-    match Label::write(code, n) {
-        Ok(again) => {
-            let bits = again.bits;
-            writeln!(out, "{code} {n} {centre} {bits:08X}")
-        }
-        Err(fault) => refused(out, fault),
-    }
+    let bits = again.bits;
+    writeln!(out, "{code} {n} {centre} {bits:08X}")
 }
 
+// Prints the label that is written, and what it tells.
 fn write<W: Write>(out: &mut W, code: u8, n: i16) -> io::Result<()> {
-    match Label::write(code, n) {
-        Ok(label) => {
-            let bits = label.bits;
-            write!(out, "{bits:08X} ")?;
-            read(out, label)
-        }
-        Err(fault) => refused(out, fault),
-    }
+    let label = match Label::write(code, n) {
+        Ok(label) => label,
+        Err(fault) => return refused(out, fault),
+    };
+    let bits = label.bits;
+    write!(out, "{bits:08X} ")?;
+    read(out, label)
 }
 
+// Does what a line asks for.
 fn run<W: Write>(out: &mut W, line: &str) -> anyhow::Result<()> {
-    let mut words = line.split(' ');
-    let verb = words.next().unwrap_or("");
-    let first = words.next().unwrap_or("");
-    if verb == "READ" {
-        let bits = u32::from_str_radix(first, 16)?;
-        read(out, Label { bits })?;
-    } else {
-        let n = words.next().unwrap_or("").parse::<i16>()?;
-        write(out, first.parse::<u8>()?, n)?;
+    match line.parse::<Request>()? {
+        Request::Read(label) => read(out, label)?,
+        Request::Write { code, n } => write(out, code, n)?,
     }
     Ok(())
 }
 
+// Line after line. Each program has its own: a shared one would be public and could promise nothing.
 fn main(rt: HostRuntime) -> anyhow::Result<()> {
     let heap = rt.alloc();
     let mut out = BufWriter::new(heap, rt.stdout())?;

@@ -1,7 +1,7 @@
 -- One more entry is written.
 use Rattle.std.proofs.Common.{◌≡◌, ℕ, ◌+◌, ◌<◌, ◌≤◌, List, [], ◌∷◌, ◌++◌, map, length, get_or, take, drop, set, replicate, sym, ap, ◌∙◌, arith}
 use Rattle.std.specs.List.{range_with_len}
-use Rattle.network.specs.Tables.{tabled}
+use Rattle.network.specs.Tables.{filled, tabled}
 use Rattle.std.proofs.lemmas.List.FromFn.{length-map-range_with_len, get_or-map-range_with_len, map-range_with_len_more}
 use Rattle.std.proofs.lemmas.List.{set_at, take_at, drop_at, drop_more, replicate_more, append_assoc, length-replicate, length-append, length-drop, get_or_append_left}
 
@@ -16,6 +16,9 @@ front_more {A} front front' old i v h long e =
 
 pub filled_more : {A : Type 0} (old : List A) (i : ℕ) (v : A) → i < length old → set (replicate i v ++ drop i old) i v ≡ replicate (i + 1) v ++ drop (i + 1) old
 filled_more old i v h = front_more (replicate i v) (replicate (i + 1) v) old i v h (length-replicate i v) (replicate_more i v)
+
+pub length-filled : {A : Type 0} (n : ℕ) (v : A) (old : List A) → length (filled n v old) ≡ length old
+length-filled n v old = simp (length-append, length-replicate, length-drop) (omega arith)
 
 pub tabled_more : {A : Type 0} (old : List A) (f : ℕ → A) (i : ℕ) (v : A) → i < length old → v ≡ f i → set (map f (range_with_len 0 i) ++ drop i old) i v ≡ map f (range_with_len 0 (i + 1)) ++ drop (i + 1) old
 tabled_more old f i v h e =

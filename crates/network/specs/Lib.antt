@@ -1,4 +1,6 @@
 pub mod Tables
 pub mod Tariffs
+pub mod Spacings
+pub mod Extents
 pub mod Limits
 pub mod Net

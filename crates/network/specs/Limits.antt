@@ -4,14 +4,6 @@ use Rattle.network.specs.declared.counts.Counts.{Counts}
 use Rattle.network.specs.declared.span.Span.{Span}
 use Rattle.network.specs.Tariffs.{absent, span_entries, converter_entries, converter_entry, present}
 
--- 1 to 64 nodes, at most 256 spans, 1 to 16 channels
-abbrev pub Counted : Counts → Type 0
-Counted n = (1 ≤ n.nodes) × (n.nodes ≤ 64) × (n.spans ≤ 256) × (1 ≤ n.channels) × (n.channels ≤ 16)
-
--- a spacing code
-abbrev pub Spaced : ℕ → Type 0
-Spaced code = (1 ≤ code) × (code ≤ 4)
-
 -- a channel number is from -1000 to 1000
 abbrev pub in_range : ℤ → Bool
 in_range n = int_le (negsuc 999) n && int_le n (pos 1000)

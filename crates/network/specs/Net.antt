@@ -1,24 +1,26 @@
 -- The network as a mathematical value.
-use Rattle.std.specs.Prelude.{ℕ, Bool, cond, ◌&&◌, List, take, ℤ, Some, None, Option, nat_lt, slice_index_or}
+use Rattle.std.specs.Prelude.{ℕ, cond, ◌&&◌, List, take, ℤ, None, Option, nat_lt, slice_index_or}
 use Rattle.network.specs.declared.Network.{Network}
 use Rattle.network.specs.declared.counts.Counts.{Counts}
 use Rattle.network.specs.declared.span.Span.{Span}
+use Rattle.network.specs.declared.spacing.Spacing.{Spacing}
+use Rattle.network.specs.Extents.{given}
 use Rattle.network.specs.Tariffs.{absent, tariff, span_entries, span_entry, converter_entries, converter_entry}
 use Rattle.network.specs.Limits.{number_at, span_at}
 
 -- each list is just as long as the counts say
 pub record Net : Type 0 where
   pub counts : Counts
-  pub spacing : ℕ
+  pub spacing : Spacing
   pub numbers : List ℤ
   pub ends : List Span
   pub tariffs : List ℕ
   pub converters : List ℕ
 
-abbrev pub value : Counts → ℕ → List ℤ → List Span → List ℕ → List ℕ → Net
-value n code numbers ends tariffs converters = record {
+abbrev pub value : Counts → Spacing → List ℤ → List Span → List ℕ → List ℕ → Net
+value n spacing numbers ends tariffs converters = record {
   counts = n;
-  spacing = code;
+  spacing = spacing;
   numbers = take n.channels numbers;
   ends = take n.spans ends;
   tariffs = take (span_entries n) tariffs;
@@ -27,10 +29,7 @@ value n code numbers ends tariffs converters = record {
 
 -- what a network is, whatever its tables hold beyond
 abbrev pub net : Network → Net
-net w = value w.counts w.spacing w.numbers w.ends w.tariffs.now w.converters.now
-
-abbrev pub given : {A : Type 0} → Bool → A → Option A
-given b x = cond b (Some x) None
+net w = value w.extent.counts w.spacing w.numbers w.ends w.tariffs.now w.converters.now
 
 -- the number n of a channel
 abbrev pub number_of : Net → ℕ → Option ℤ

@@ -1,9 +1,7 @@
 pub mod Parts
 pub mod Rows
-pub mod Pairs
+pub mod Firsts
 pub mod Heads
-pub mod Ranks
-pub mod Loads
 pub mod Marks
 pub mod Owed
 pub mod Told

@@ -1,8 +1,9 @@
 -- The converters that a plan lists are those that its network has.
-use Rattle.std.proofs.Common.{◌≡◌, ℕ, zero, suc, ◌+◌, ◌*◌, ◌/◌, ◌%◌, ◌<◌, ◌≤◌, Bool, true, false, cond, ◌&&◌, ◌||◌, eqb, ltb, ◌⊎◌, Some, None, Option, sym, refl, ap, ◌∙◌, subst, inl, inr, ⊎_elim, arith}
-use lib.Arith.{digits_lt, digits_div, digits_mod}
+use Rattle.std.proofs.Common.{◌≡◌, ℕ, zero, suc, ◌+◌, ◌*◌, ◌<◌, ◌≤◌, Bool, true, false, cond, ◌&&◌, eqb, ltb, ◌⊎◌, Some, None, Option, sym, refl, ap, ◌∙◌, subst, inl, inr, ⊎_elim, arith}
+use lib.Arith.{digits_lt}
+use Rattle.std.proofs.lemmas.Bool.Decides.{nat_tests}
 use Rattle.std.proofs.lemmas.List.FromFn.{get_or-map-range_with_len}
-use Rattle.std.proofs.lemmas.Bool.{cases_Bool, cases_eq, and_parts, and_from, or_cases, cond-true, cond-false, eqb-true, eqb-false, eq-eqb, ne_eqb, ltb-true, lt-ltb}
+use Rattle.std.proofs.lemmas.Bool.{cases_Bool, and_from, cond-true, cond-false, eqb-true, lt-ltb}
 use Rattle.network.specs.Net.{Net, converter_of}
 use Rattle.network.specs.Tariffs.{absent, tariff, converter_entries, converter_entry}
 use Rattle.network.specs.declared.counts.Counts.{Counts}
@@ -14,7 +15,7 @@ use Rattle.plan.specs.Header.{counts_of}
 use Rattle.plan.specs.Plan.{read_by}
 use Rattle.plan.specs.Records.{converter_in, before}
 use Rattle.plan.specs.Telling.{place, listed, tells}
-use Rattle.plan.proofs.Owed.{Owed, proper_converter}
+use Rattle.plan.proofs.Owed.{Owed, proper_converter, same_place}
 
 -- an entry further on in an earlier row lies before one in a later row
 row_lt : (q r c d k : ℕ) → q < r → c < k → q * k + c < r * k + d
@@ -38,30 +39,7 @@ module _ (n : Counts) (a b : Converter) (hf : a.from < n.channels) (ht : a.to < 
   by_to e f h = let same : row a * n.channels ≡ row b * n.channels = λ k. (e k * n.channels + f k) * n.channels in omega (arith, same, h)
 
   rises : before a b ≡ true → place n a < place n b
-  rises e =
-      ⊎_elim
-      (λ (l : ltb a.node b.node ≡ true). by_node (ltb-true a.node b.node l))
-      (λ (m : (eqb a.node b.node && (ltb a.from b.from || (eqb a.from b.from && ltb a.to b.to))) ≡ true).
-      let p = and_parts (eqb a.node b.node) (ltb a.from b.from || (eqb a.from b.from && ltb a.to b.to)) m in
-      let node = eqb-true a.node b.node p.0 in
-      ⊎_elim
-      (λ (l : ltb a.from b.from ≡ true). by_from node (ltb-true a.from b.from l))
-      (λ (q : (eqb a.from b.from && ltb a.to b.to) ≡ true).
-      let r = and_parts (eqb a.from b.from) (ltb a.to b.to) q in
-      by_to node (eqb-true a.from b.from r.0) (ltb-true a.to b.to r.1))
-      (or_cases (ltb a.from b.from) (eqb a.from b.from && ltb a.to b.to) p.1))
-      (or_cases (ltb a.node b.node) (eqb a.node b.node && (ltb a.from b.from || (eqb a.from b.from && ltb a.to b.to))) e)
-
--- an entry tells its node and its channels
-same_place : (n : Counts) (c : Converter) (u a b : ℕ) → c.from < n.channels → c.to < n.channels → a < n.channels → b < n.channels → place n c ≡ converter_entry n u a b
-    → (c.node ≡ u) × (c.from ≡ a) × (c.to ≡ b)
-same_place n c u a b hf ht ha hb e =
-    let k = n.channels in
-    let rows : c.node * k + c.from ≡ u * k + a = sym (digits_div (c.node * k + c.from) ht) ∙ ap (λ x. x / k) e ∙ digits_div (u * k + a) hb in (
-      sym (digits_div c.node hf) ∙ ap (λ x. x / k) rows ∙ digits_div u ha,
-      sym (digits_mod c.node hf) ∙ ap (λ x. x % k) rows ∙ digits_mod u ha,
-      sym (digits_mod (c.node * k + c.from) ht) ∙ ap (λ x. x % k) e ∙ digits_mod (u * k + a) hb,
-    )
+  rises e = grind (arith, nat_tests, by_node, by_from, by_to)
 
 -- what an entry holds that some converter has
 abbrev Held : Counts → (ℕ → Converter) → ℕ → ℕ → Type 0
@@ -82,18 +60,14 @@ listed_by n f (suc r) e =
 
 -- what a charge tells of its entry
 some_is : (v t : ℕ) → tariff v ≡ Some t → (v ≡ absent → ⊥) × (v ≡ t)
-some_is v t e =
-    ⊎_elim
-    (λ (h : eqb v absent ≡ true). let none : None ≡ Some t = sym (cond-true (eqb v absent) None (Some v) h) ∙ e in let z : ◌≡◌ {A = ℕ} 0 1 = cc in absurd (omega arith))
-    (λ (h : eqb v absent ≡ false). let some : Some v ≡ Some t = sym (cond-false (eqb v absent) None (Some v) h) ∙ e in (eqb-false v absent h, (cc)))
-    (cases_Bool (eqb v absent))
+some_is v t e = (grind (arith, nat_tests), grind (arith, nat_tests))
 
 tariff_some : (v : ℕ) → (v ≡ absent → ⊥) → tariff v ≡ Some v
-tariff_some v h = cond-false (eqb v absent) None (Some v) (ne_eqb v absent h)
+tariff_some v h = grind (arith, nat_tests)
 
 cond_some : (b : Bool) (x : Option ℕ) (t : ℕ) → cond b x None ≡ Some t → b ≡ true
 cond_some true x t e = refl
-cond_some false x t e = let z : ◌≡◌ {A = ℕ} 0 1 = cc in absurd (omega arith)
+cond_some false x t e = cc
 
 module _ (p : Plan) (tariffs converters : ℕ) (o : Owed p (counts_of p.header) tariffs converters) where
   abbrev n : Counts
@@ -108,26 +82,16 @@ module _ (p : Plan) (tariffs converters : ℕ) (o : Owed p (counts_of p.header) 
   step : (i : ℕ) → suc i < count → place n (at i) < place n (at (suc i))
   step i h =
       let s = proper_converter p n tariffs converters o i (omega arith) in
-      rises n (at i) (at (suc i)) s.1 s.2 (proper_converter p n tariffs converters o (suc i) h).5
+      rises n (at i) (at (suc i)) s.from s.to (proper_converter p n tariffs converters o (suc i) h).rises
 
   chain : (i j : ℕ) → i < j → j < count → place n (at i) < place n (at j)
   chain i zero h l = absurd (omega arith)
-  chain i (suc j) h l =
-      ⊎_elim
-      (λ (e : i ≡ j). subst (λ (m : ℕ). place n (at m) < place n (at (suc j))) (sym e) (step j l))
-      (λ (ne : i ≡ j → ⊥). let less : i < j = omega arith in omega (arith, chain i j less (omega arith), step j l))
-      (cases_eq i j)
+  chain i (suc j) h l = let before = chain i j in let next = step j l in grind arith
 
   -- the entry of a converter holds its tariff
   there : (r i : ℕ) → r ≤ count → i < r → listed n at r (place n (at i)) ≡ (at i).tariff
   there zero i h l = absurd (omega arith)
-  there (suc r) i h l =
-      ⊎_elim
-      (λ (e : i ≡ r). cond-true _ _ _ (eq-eqb (place n (at r)) (place n (at i)) (ap (λ (j : ℕ). place n (at j)) (sym e))) ∙ ap (λ (j : ℕ). (at j).tariff) (sym e))
-      (λ (ne : i ≡ r → ⊥).
-      let less : i < r = omega arith in
-      cond-false _ _ _ (ne_eqb (place n (at r)) (place n (at i)) (λ q. omega (arith, q, chain i r less (omega arith)))) ∙ there r i (omega arith) less)
-      (cases_eq i r)
+  there (suc r) i h l = let before = there r i in let further = chain i r in grind (arith, nat_tests)
 
   has : (u a b : ℕ) → u < n.nodes → a < n.channels → b < n.channels → converter_of (tells (read_by p)) u a b ≡ tariff (listed n at count (converter_entry n u a b))
   unfolding tells
@@ -138,14 +102,13 @@ module _ (p : Plan) (tariffs converters : ℕ) (o : Owed p (counts_of p.header) 
   within : (u a b t : ℕ) → converter_of (tells (read_by p)) u a b ≡ Some t → (u < n.nodes) × (a < n.channels) × (b < n.channels)
   unfolding tells
   within u a b t e =
-      let x = and_parts (ltb u n.nodes) (ltb a n.channels && ltb b n.channels) (cond_some _ _ t e) in
-      let y = and_parts (ltb a n.channels) (ltb b n.channels) x.1 in
-      (ltb-true u n.nodes x.0, ltb-true a n.channels y.0, ltb-true b n.channels y.1)
+      let inside = cond_some (ltb u n.nodes && (ltb a n.channels && ltb b n.channels)) _ t e in
+      (grind (arith, nat_tests), grind (arith, nat_tests), grind (arith, nat_tests))
 
   each : (i : ℕ) → i < count → converter_of (tells (read_by p)) (at i).node (at i).from (at i).to ≡ Some (at i).tariff
   each i h =
       let s = proper_converter p n tariffs converters o i h in
-      has (at i).node (at i).from (at i).to s.0 s.1 s.2 ∙ ap tariff (there count i (omega arith) h) ∙ tariff_some (at i).tariff s.4
+      has (at i).node (at i).from (at i).to s.node s.from s.to ∙ ap tariff (there count i (omega arith) h) ∙ tariff_some (at i).tariff s.charged
 
   only : (u a b t : ℕ) → converter_of (tells (read_by p)) u a b ≡ Some t → (i : ℕ) × (i < count) × (at i ≡ converter u a b t)
   only u a b t e =
@@ -155,7 +118,7 @@ module _ (p : Plan) (tariffs converters : ℕ) (o : Owed p (counts_of p.header) 
       (λ (none : listed n at count (converter_entry n u a b) ≡ absent). absurd (v.0 none))
       (λ (x : Held n at count (converter_entry n u a b)).
       let s = proper_converter p n tariffs converters o x.0 x.1 in
-      let q = same_place n (at x.0) u a b s.1 s.2 w.1 w.2 x.2 in
+      let q = same_place n (at x.0) u a b s.from s.to w.1 w.2 x.2 in
       let charge = x.3 ∙ v.1 in
       (x.0, x.1, λ k. record { node = q.0 k; from = q.1 k; to = q.2 k; tariff = charge k }))
       (listed_by n at count (converter_entry n u a b))

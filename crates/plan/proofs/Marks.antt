@@ -2,7 +2,8 @@
 use Rattle.std.proofs.Common.{◌≡◌, ℕ, zero, suc, ◌+◌, ◌<◌, ◌≤◌, min, cond, eqb, List, ◌∷◌, ◌++◌, map, length, drop, set, replicate, sym, refl, ap, ◌∙◌, ⊎_elim, add-one, arith}
 use Rattle.std.specs.List.{range_with_len}
 use Rattle.std.proofs.lemmas.List.FromFn.{length-map-range_with_len}
-use Rattle.std.proofs.lemmas.List.{set-append_left, drop_at, length-replicate}
+use Rattle.std.proofs.lemmas.List.{set-append_left, length-replicate}
+use Rattle.std.proofs.lemmas.Slice.{drop-append-drop}
 use Rattle.std.proofs.lemmas.Bool.{cond-true, cond-false, cond_both, eq-eqb, ne_eqb, cases_eq}
 use Rattle.network.specs.Tables.{filled, tabled}
 use Rattle.network.specs.Tariffs.{absent, present, converter_entries}
@@ -46,10 +47,8 @@ same_everywhere : (v a n : ℕ) → replicate n v ≡ map (λ _. v) (range_with_
 same_everywhere v a zero = refl
 same_everywhere v a (suc n) = ap (λ xs. v ∷ xs) (same_everywhere v (a + 1) n)
 
-drop-filled : (n v : ℕ) (old : List ℕ) → n ≤ length old → drop n (filled n v old) ≡ drop n old
-drop-filled n v old h =
-    let m : min n (length old) ≡ n = omega arith in
-    ap (λ j. drop n (replicate j v ++ drop j old)) m ∙ drop_at (replicate n v) (drop n old) n (length-replicate n v)
+drop-filled : (n v : ℕ) (old : List ℕ) → drop n (filled n v old) ≡ drop n old
+drop-filled n v old = drop-append-drop (min n (length old)) old (replicate (min n (length old)) v) n (omega arith) (length-replicate (min n (length old)) v)
 
 -- no converter yet
 pub marks_none : (n : ℕ) (cur old : List ℕ) → cur ≡ filled n absent old → n ≤ length old → cur ≡ tabled n (λ _. absent) cur
@@ -57,11 +56,11 @@ marks_none n cur old e h =
     let m : min n (length old) ≡ n = omega arith in
     e
     ∙ ap (λ j. replicate j absent ++ drop j old) m
-    ∙ (λ k. same_everywhere absent 0 n k ++ sym (ap (drop n) e ∙ drop-filled n absent old h) k)
+    ∙ (λ k. same_everywhere absent 0 n k ++ sym (ap (drop n) e ∙ drop-filled n absent old) k)
 
 -- what stood beyond the entries is what stood there at first
-pub marks_all : (n : ℕ) (f : ℕ → ℕ) (cur old : List ℕ) → cur ≡ filled n absent old → n ≤ length old → tabled n f cur ≡ tabled n f old
-marks_all n f cur old e h = ap (λ xs. map f (range_with_len 0 n) ++ xs) (ap (drop n) e ∙ drop-filled n absent old h)
+pub marks_all : (n : ℕ) (f : ℕ → ℕ) (cur old : List ℕ) → cur ≡ filled n absent old → tabled n f cur ≡ tabled n f old
+marks_all n f cur old e = ap (λ xs. map f (range_with_len 0 n) ++ xs) (ap (drop n) e ∙ drop-filled n absent old)
 
 abbrev seen : ℕ → ℕ
 seen x = cond (eqb x absent) 0 1

@@ -1,39 +1,16 @@
 -- Plans that are alike are judged alike.
-use Rattle.std.proofs.Common.{◌≡◌, ℕ, ◌+◌, ◌*◌, ◌<◌, eqb, leb, List, [], ◌∷◌, ◌++◌, get_or, sym, ap, ◌∙◌, arith}
+use Rattle.std.proofs.Common.{◌≡◌, ℕ, ◌+◌, ◌*◌, ◌<◌, List, [], ◌∷◌, ◌++◌, get_or, sym, ap, ◌∙◌, arith}
 use Rattle.std.proofs.lemmas.List.{get_or-take}
-use Rattle.fault.specs.Judging.{Judgement, judge, first, inside}
+use Rattle.fault.specs.Judging.{judge, first, inside}
 use Rattle.fault.specs.declared.book.BookFault.TheVariants.{LoadTable}
-use Rattle.fault.specs.declared.plan.FileFault.{FileFault}
-use Rattle.fault.specs.declared.plan.FileFault.TheVariants.{Size, Version, Value, Section}
+use Rattle.fault.specs.declared.plan.FileFault.TheVariants.{Section}
 use Rattle.fault.specs.declared.plan.LoadFault.TheVariants.{File, Book}
-use Rattle.fault.specs.declared.plan.SectionFault.{SectionFault}
-use Rattle.fault.specs.declared.plan.SectionFault.TheVariants.{Early, Length, Beyond, Record}
-use Rattle.plan.specs.declared.header.Header.{Header}
-use Rattle.plan.specs.Bytes.{byte, short, wide, among}
+use Rattle.fault.specs.declared.plan.SectionFault.TheVariants.{Record}
+use Rattle.plan.specs.Bytes.{byte, short, wide}
 use Rattle.plan.specs.Header.{header, header_faults, counts_of}
 use Rattle.plan.specs.Plan.{rows, pairs_faults, record_faults, load_faults, roomy, read}
-use Rattle.plan.specs.Sections.{start, extent, end, numbers_pair, spans_pair, tariffs_pair, converters_pair, numbers_size, spans_size, tariffs_size, converters_size}
+use Rattle.plan.specs.Sections.{start, extent, end}
 use Rattle.plan.specs.Unread.{Alike, Unread}
-
--- the judgements of a header, of the file's length and its version
-abbrev of_header : ℕ → ℕ → Header → List (Judgement FileFault)
-of_header long version h =
-    judge (among 40 65536 long) Size
-    ∷ judge (eqb version 1) Version
-    ∷ judge (among 1 4 h.spacing) (Value 1)
-    ∷ judge (among 1 64 h.nodes) (Value 2)
-    ∷ judge (among 1 16 h.channels) (Value 3)
-    ∷ judge (leb h.spans 256) (Value 4)
-    ∷ judge (leb h.converters 4096) (Value 6)
-    ∷ []
-
--- the judgements of a pair, of the file's length, the floor, the start, the extent and the size
-abbrev of_pair : ℕ → ℕ → ℕ → ℕ → ℕ → ℕ → List (Judgement SectionFault)
-of_pair long pair floor from extends size =
-    judge (leb floor from) (Early pair)
-    ∷ judge (eqb extends size) (Length pair)
-    ∷ judge (leb (from + extends) long) (Beyond pair)
-    ∷ []
 
 module _ (bs cs : List ℕ) (a : Alike bs cs) where
   byte_same : (i : ℕ) → i < 40 → byte bs i ≡ byte cs i
@@ -56,7 +33,11 @@ module _ (bs cs : List ℕ) (a : Alike bs cs) where
   }
 
   headers_same : header_faults bs ≡ header_faults cs
-  headers_same = λ k. of_header (a.long k) (byte_same 0 (omega arith) k) (header_same k)
+  headers_same =
+      let long = a.long in
+      let version = byte_same 0 (omega arith) in
+      let same = header_same in
+      cc
 
   start_same : (pair : ℕ) → pair < 33 → start bs pair ≡ start cs pair
   start_same pair h = wide_same pair (omega arith)
@@ -70,22 +51,21 @@ module _ (bs cs : List ℕ) (a : Alike bs cs) where
   pairs_same : pairs_faults bs (header bs) ≡ pairs_faults cs (header cs)
   unfolding pairs_faults
   pairs_same =
-      let one : 8 < 33 = omega arith in
-      let two : 16 < 33 = omega arith in
-      let three : 24 < 33 = omega arith in
-      let four : 32 < 33 = omega arith in
-      λ k.
-      of_pair (a.long k) numbers_pair 40 (start_same 8 one k) (extent_same 8 one k) (numbers_size (header_same k))
-      ++ (of_pair (a.long k) spans_pair (end_same 8 one k) (start_same 16 two k) (extent_same 16 two k) (spans_size (header_same k))
-      ++ (of_pair (a.long k) tariffs_pair (end_same 16 two k) (start_same 24 three k) (extent_same 24 three k) (tariffs_size (header_same k))
-      ++ of_pair (a.long k) converters_pair (end_same 24 three k) (start_same 32 four k) (extent_same 32 four k) (converters_size (header_same k))))
+      let long = a.long in
+      let same = header_same in
+      let numbers = start_same 8 (omega arith) in
+      let spans = start_same 16 (omega arith) in
+      let tariffs = start_same 24 (omega arith) in
+      let converters = start_same 32 (omega arith) in
+      let numbers-long = extent_same 8 (omega arith) in
+      let spans-long = extent_same 16 (omega arith) in
+      let tariffs-long = extent_same 24 (omega arith) in
+      let converters-long = extent_same 32 (omega arith) in
+      cc
 
   records_same : record_faults bs (header bs) ≡ record_faults cs (header cs)
   records_same =
-      let one : 8 < 33 = omega arith in
-      let two : 16 < 33 = omega arith in
-      let four : 32 < 33 = omega arith in
-      λ k. rows (header_same k) (start_same 8 one k) (a.numbers k) (start_same 16 two k) (a.spans k) (start_same 32 four k) (a.converters k)
+      λ k. rows (header_same k) (start_same 8 (omega arith) k) (a.numbers k) (start_same 16 (omega arith) k) (a.spans k) (start_same 32 (omega arith) k) (a.converters k)
 
   loads_same : (tariffs converters : ℕ) → load_faults bs tariffs converters ≡ load_faults cs tariffs converters
   loads_same tariffs converters =

@@ -1,33 +1,25 @@
--- A record's bytes within its section.
-use Rattle.std.proofs.Common.{◌≡◌, ℕ, ◌+◌, ◌-◌, ◌*◌, ◌<◌, List, get_or, take, drop, ap, ◌∙◌, arith}
-use Rattle.std.proofs.lemmas.List.{get_or-take, get_or-drop}
-use Rattle.network.specs.declared.span.Span.{Span}
-use Rattle.plan.specs.declared.record.Converter.{Converter}
-use Rattle.plan.specs.Records.{span_in, converter_in}
+-- The records of a section, by their bytes.
+use Rattle.std.proofs.Common.{◌≡◌, ℕ, zero, suc, ◌+◌, ◌*◌, ◌/◌, ◌<◌, List, length, get_or, take, drop, sym, ap, ◌∙◌, arith}
+use Rattle.std.specs.Simd.{first_chunks}
+use Rattle.std.proofs.Math.Nat.{mul-div_cancel_left}
+use Rattle.std.proofs.lemmas.List.{drop-drop}
 
--- byte j of the n bytes from a on is byte k of the section
-byte_of : (bs : List ℕ) (a n j k : ℕ) → j < n → a + j ≡ k → get_or (take (a + n - a) (drop a bs)) j 0 ≡ get_or bs k 0
-byte_of bs a n j k h e = get_or-take (a + n - a) (drop a bs) j 0 (omega arith) ∙ get_or-drop a bs j 0 ∙ ap (λ i. get_or bs i 0) e
+-- record i, of n bytes, among the first k
+pub get_or-first_chunks : {X : Type 0} (n k : ℕ) (xs : List X) (i : ℕ) (d : List X) → i < k → get_or (first_chunks n k xs) i d ≡ take n (drop (n * i) xs)
+get_or-first_chunks n zero xs i d h = absurd (omega arith)
+get_or-first_chunks n (suc k) xs zero d h = let z : n * 0 ≡ 0 = omega arith in ap (λ j. take n (drop j xs)) (sym z)
+get_or-first_chunks n (suc k) xs (suc i) d h =
+    let z : n + n * i ≡ n * suc i = omega arith in
+    get_or-first_chunks n k (drop n xs) i d (omega arith) ∙ ap (take n) (drop-drop (n * i) n xs ∙ ap (λ j. drop j xs) z)
 
-module _ (bs : List ℕ) (i : ℕ) where
-  abbrev cut2 : List ℕ
-  cut2 = take (2 * i + 2 - 2 * i) (drop (2 * i) bs)
+-- what is read of the bytes of record i
+pub record_is : {R : Type 0} (n : ℕ) (record-in : List ℕ → ℕ → R) (bs : List ℕ) (chunks : List (List ℕ)) (i : ℕ) (own d : List ℕ) (r : R) → ((cs : List ℕ) (j : ℕ) → record-in (take n (drop (n * j) cs)) 0 ≡ record-in cs j)
+    → chunks ≡ first_chunks n (length bs / n) bs → length chunks ≡ length bs / n → i < length chunks → own ≡ get_or chunks i d → r ≡ record-in own 0 → r ≡ record-in bs i
+record_is n record-in bs chunks i own d r apart front long h e f =
+    f
+    ∙ ap (λ (o : List ℕ). record-in o 0) (e ∙ ap (λ (cs : List (List ℕ)). get_or cs i d) front ∙ get_or-first_chunks n (length bs / n) bs i d (omega arith))
+    ∙ apart bs i
 
-  abbrev cut5 : List ℕ
-  cut5 = take (5 * i + 5 - 5 * i) (drop (5 * i) bs)
-
-  pub span_is : ◌≡◌ {A = Span} (record { tail = get_or cut2 0 0; head = get_or cut2 1 0 }) (span_in bs i)
-  span_is =
-      let t = byte_of bs (2 * i) 2 0 (2 * i) (omega arith) (omega arith) in
-      let h = byte_of bs (2 * i) 2 1 (2 * i + 1) (omega arith) (omega arith) in
-      λ k. record { tail = t k; head = h k }
-
-  pub converter_is : (w : ℕ) → w ≡ get_or cut5 3 0 * 256 + get_or cut5 4 0 → ◌≡◌ {A = Converter} (record { node = get_or cut5 0 0; from = get_or cut5 1 0; to = get_or cut5 2 0; tariff = w }) (converter_in bs i)
-  converter_is w e =
-      let n = byte_of bs (5 * i) 5 0 (5 * i) (omega arith) (omega arith) in
-      let f = byte_of bs (5 * i) 5 1 (5 * i + 1) (omega arith) (omega arith) in
-      let t = byte_of bs (5 * i) 5 2 (5 * i + 2) (omega arith) (omega arith) in
-      let hi = byte_of bs (5 * i) 5 3 (5 * i + 3) (omega arith) (omega arith) in
-      let lo = byte_of bs (5 * i) 5 4 (5 * i + 3 + 1) (omega arith) (omega arith) in
-      let v = e ∙ (λ k. hi k * 256 + lo k) in
-      λ k. record { node = n k; from = f k; to = t k; tariff = v k }
+-- how many records a section has
+pub count_is : (n count : ℕ) (bs : List ℕ) → 0 < n → length bs ≡ n * count → length bs / n ≡ count
+count_is n count bs h e = ap (λ m. m / n) e ∙ mul-div_cancel_left count h

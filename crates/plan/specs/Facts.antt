@@ -1,6 +1,7 @@
 -- What a sound header says.
 use Rattle.std.specs.Prelude.{ℕ, ◌≤◌, List, length}
-use Rattle.network.specs.Limits.{Counted, Spaced}
+use Rattle.network.specs.Extents.{Counted}
+use Rattle.network.specs.Spacings.{Spaced}
 use Rattle.plan.specs.Header.{header, counts_of}
 
 pub record Headed (bs : List ℕ) : Type 0 where

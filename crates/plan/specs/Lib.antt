@@ -2,6 +2,7 @@ pub mod Bytes
 pub mod Header
 pub mod Facts
 pub mod Records
+pub mod Apart
 pub mod Sections
 pub mod Cuts
 pub mod Plan

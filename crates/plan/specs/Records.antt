@@ -54,16 +54,18 @@ sound_converter n last c =
     && (nat_lt c.to n.channels
     && (not (c.from == c.to) && (not (c.tariff == absent) && after before last c))))
 
--- the judgement of record i of a section that begins at a place
+-- the judgement of record i of a section that begins at a place, where records have a size
+abbrev pub record_row : {R : Type 0} → ℕ → (Option R → R → Bool) → (ℕ → RecordFault) → ℕ → (ℕ → R) → ℕ → Judgement RecordFault
+record_row size sound fault at record-at i = judge (sound (previous record-at i) (record-at i)) (fault (at + size * i))
+
 abbrev pub number_row : ℕ → List ℕ → ℕ → Judgement RecordFault
-number_row at bs i = judge (sound_number (previous (number_in bs) i) (number_in bs i)) (fault.Channel (at + 2 * i))
+number_row at bs = record_row 2 sound_number fault.Channel at (number_in bs)
 
 abbrev pub span_row : Counts → ℕ → List ℕ → ℕ → Judgement RecordFault
-span_row n at bs i = judge (sound_span n (span_in bs i)) (fault.Span (at + 2 * i))
+span_row n at bs = record_row 2 (λ _. sound_span n) fault.Span at (span_in bs)
 
 abbrev pub converter_row : Counts → ℕ → List ℕ → ℕ → Judgement RecordFault
-converter_row n at bs i =
-    judge (sound_converter n (previous (converter_in bs) i) (converter_in bs i)) (fault.Converter (at + 5 * i))
+converter_row n at bs = record_row 5 (sound_converter n) fault.Converter at (converter_in bs)
 
 -- the records of a section, in their order
 abbrev pub number_faults : ℕ → ℕ → List ℕ → List (Judgement RecordFault)

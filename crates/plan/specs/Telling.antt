@@ -1,7 +1,8 @@
 -- The network that a plan tells.
-use Rattle.std.specs.Prelude.{◌≡◌, ℕ, zero, suc, cond, List, map, ◌==◌}
+use Rattle.std.specs.Prelude.{◌≡◌, ℕ, ◌<◌, zero, suc, cond, List, map, ◌==◌}
 use Rattle.std.specs.List.{range_with_len}
 use Rattle.network.specs.Net.{Net}
+use Rattle.network.specs.Spacings.{spacing_by}
 use Rattle.network.specs.Tables.{tabled}
 use Rattle.network.specs.Tariffs.{absent, span_entries, converter_entries, converter_entry}
 use Rattle.network.specs.declared.counts.Counts.{Counts}
@@ -14,6 +15,12 @@ use Rattle.plan.specs.Records.{number_in, span_in, tariff_in, converter_in}
 abbrev pub place : Counts → Converter → ℕ
 place n c = converter_entry n c.node c.from c.to
 
+-- a converter is at a node, and from a channel to a channel of the network
+pub record Stands (n : Counts) (c : Converter) : Type 0 where
+  pub node : c.node < n.nodes
+  pub from : c.from < n.channels
+  pub to : c.to < n.channels
+
 -- what the first r converters say of a table entry: the tariff of the one that has it, absent where none has
 abbrev pub listed : Counts → (ℕ → Converter) → ℕ → ℕ → ℕ
 listed n converter zero entry = absent
@@ -24,7 +31,7 @@ listed n converter (suc r) entry =
 unfoldable pub tells : Read → Net
 tells p = record {
   counts = counts_of p.header;
-  spacing = p.header.spacing;
+  spacing = spacing_by p.header.spacing;
   numbers = map (number_in p.numbers) (range_with_len 0 p.header.channels);
   ends = map (span_in p.spans) (range_with_len 0 p.header.spans);
   tariffs = map (tariff_in p.tariffs) (range_with_len 0 (span_entries (counts_of p.header)));

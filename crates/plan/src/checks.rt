@@ -1,66 +1,28 @@
-ghost use Rattle.std.specs.Prelude.{◌≡◌, ◌+◌, ◌*◌, ◌<◌, ◌≤◌, length};
-ghost use Rattle.fault.specs.Judging.{first, unless};
-ghost use Rattle.plan.specs.Records.{number_faults, span_faults, converter_faults};
+ghost use Rattle.std.specs.Prelude.{◌≡◌, ◌+◌, ◌*◌, ◌/◌, ◌<◌, ◌≤◌, length};
+ghost use Rattle.fault.specs.Judging.{first, each, unless};
+ghost use Rattle.plan.specs.Records.{record_row};
 
-use super::record;
+use super::record::Judged;
 use super::window::Window;
 use fault::plan::RecordFault;
 use network::counts::Counts;
 
-// The channel numbers.
-pub(crate) fn check_numbers(window: Window, count: usize) -> Result<(), RecordFault>
-    requires long { length window.bytes.now ≡ 2 * count }
-    requires low { window.start + 2 * count ≤ 65536 }
-    ensures { result ≡ unless (first (number_faults count window.entry.start window.entry.bytes.now)) tt }
-{
-    let mut last = None;
-    for i in 0..count {
-        let n = window.number(i);
-        if !record::sound_number(last, n) {
-            return Err(RecordFault::Channel {
-                at: window.place(2, i),
-            });
-        }
-        last = Some(n);
-    }
-    Ok(())
-}
-
-// The spans.
-pub(crate) fn check_spans(window: Window, counts: Counts) -> Result<(), RecordFault>
-    requires long { length window.bytes.now ≡ 2 * counts.spans }
-    requires low { window.start + 2 * counts.spans ≤ 65536 }
-    ensures { result ≡ unless (first (span_faults counts window.entry.start window.entry.bytes.now)) tt }
-{
-    for i in 0..counts.spans {
-        if !record::sound_span(counts, window.span(i)) {
-            return Err(RecordFault::Span {
-                at: window.place(2, i),
-            });
-        }
-    }
-    Ok(())
-}
-
-// The converters.
-pub(crate) fn check_converters(
+// The records of a section, in their order.
+pub(crate) fn check_section<R: Judged<N>, const N: usize>(
     window: Window,
     counts: Counts,
-    count: usize,
 ) -> Result<(), RecordFault>
-    requires long { length window.bytes.now ≡ 5 * count }
-    requires low { window.start + 5 * count ≤ 65536 }
-    ensures { result ≡ unless (first (converter_faults counts count window.entry.start window.entry.bytes.now)) tt }
+    requires { window.start + length window.bytes.now ≤ 65536 }
+    ensures { result ≡ unless (first (each (length window.entry.bytes.now / N) (record_row N (R.sound counts) R.fault window.entry.start (R.record_in window.entry.bytes.now)))) tt }
 {
+    let (records, _) = window.bytes.as_chunks::<N>();
     let mut last = None;
-    for i in 0..count {
-        let converter = window.converter(i);
-        if !record::sound_converter(counts, last, converter) {
-            return Err(RecordFault::Converter {
-                at: window.place(5, i),
-            });
+    for (i, bytes) in records.iter().enumerate() {
+        let record = R::read(bytes);
+        if !record.is_sound(counts, last) {
+            return Err(R::fault(window.place(N, i)));
         }
-        last = Some(converter);
+        last = Some(record);
     }
     Ok(())
 }

@@ -1,11 +1,16 @@
 ghost use Rattle.std.specs.Prelude.{◌≡◌, Some, None, MatchResult};
 ghost use Rattle.fault.specs.Judging.{first};
+ghost use Rattle.network.specs.Extents.{Counted};
+ghost use Rattle.network.specs.Spacings.{Spaced, spacing_by};
 ghost use Rattle.plan.specs.Header.{header, header_faults, counts_of};
 
 use fault::plan::FileFault;
 use network::counts::Counts;
+use network::extent::Extent;
+use network::spacing::Spacing;
 
-// What the plan's first eight bytes tell.
+// What the plan's first eight bytes tell. The spacing code is as it stands there: any header has its
+// counts.
 #[derive(Clone, Copy, PartialEq, Eq, Debug)]
 pub struct Header {
     pub spacing: u8,
@@ -16,6 +21,7 @@ pub struct Header {
 }
 
 impl Header {
+    // How many nodes, spans and channels it tells.
     pub fn counts(self) -> Counts
         ensures { result ≡ counts_of self }
     {
@@ -24,6 +30,22 @@ impl Header {
             spans: usize::from(self.spans),
             channels: usize::from(self.channels),
         }
+    }
+
+    // The counts of a header whose values are in range.
+    pub(crate) fn extent(self) -> Extent
+        requires { Counted (counts_of self) }
+        ensures { result.counts ≡ counts_of self }
+    {
+        Extent::new(self.counts())
+    }
+
+    // The spacing that its code means, where it means one.
+    pub(crate) fn told_spacing(self) -> Spacing
+        requires { Spaced self.spacing }
+        ensures { result ≡ spacing_by self.spacing }
+    {
+        Spacing::try_from(self.spacing).unwrap()
     }
 }
 

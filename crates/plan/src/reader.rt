@@ -1,18 +1,19 @@
 ghost use Rattle.std.specs.Prelude.{◌≡◌, ◌≤◌, length, if◌then◌else◌, Some, None, Ok, Err, MatchResult};
 ghost use Rattle.fault.specs.declared.book.BookFault.TheVariants.{LoadTable};
 ghost use Rattle.fault.specs.Judging.{first, unless};
-ghost use Rattle.network.specs.Limits.{Counted};
 ghost use Rattle.plan.specs.Header.{header as header_of, header_faults};
 ghost use Rattle.plan.specs.Kept.{Told, Fitted, Accepted, rows_of};
 ghost use Rattle.plan.specs.Plan.{pairs_faults, section_faults, file_faults, load_faults, roomy};
 ghost use Rattle.plan.specs.Unread.{Unread};
 
-use super::checks;
+use super::checks::check_section;
 use super::header::{Header, read_header};
+use super::record::Converter;
 use super::window::{Window, cut};
 use fault::book::BookFault;
 use fault::plan::{FileFault, LoadFault, RecordFault, SectionFault};
-use network::counts::Counts;
+use network::extent::Extent;
+use network::span::Span;
 
 // How many bytes the header has, and where in it the pairs of the four sections stand.
 const HEADER: usize = 40;
@@ -36,27 +37,19 @@ pub struct Plan<'p> {
 }
 
 // The four sections that the header's pairs tell.
+#[tactic(auto, using(crate::proofs::Firsts::first_pair, crate::proofs::Heads::headed))]
 fn cut_sections<'p>(bytes: &'p [u8], header: Header) -> Result<Plan<'p>, SectionFault>
     requires is { header ≡ header_of bytes.now }
     requires sound { first (header_faults bytes.now) ≡ None }
     ensures { MatchResult result (λ p. (first (pairs_faults bytes.now header) ≡ None) × Told bytes.now header p × Fitted p) (λ e. first (pairs_faults bytes.now header) ≡ Some e) }
 {
-    let channels = usize::from(header.channels);
-    let count = usize::from(header.spans);
-    let numbers = cut(bytes, NUMBERS, HEADER, 2 * channels)?;
-    let spans = cut(bytes, SPANS, numbers.start + numbers.bytes.len(), 2 * count)?;
-    let tariffs = cut(
-        bytes,
-        TARIFFS,
-        spans.start + spans.bytes.len(),
-        2 * (count * channels),
-    )?;
-    let converters = cut(
-        bytes,
-        CONVERTERS,
-        tariffs.start + tariffs.bytes.len(),
-        5 * usize::from(header.converters),
-    )?;
+    let extent = header.extent();
+    let counts = extent.counts();
+    let numbers = cut(bytes, NUMBERS, HEADER, 2 * counts.channels)?;
+    let spans = cut(bytes, SPANS, numbers.end(), 2 * counts.spans)?;
+    let tariffs = cut(bytes, TARIFFS, spans.end(), 2 * extent.span_entries())?;
+    let count = usize::from(header.converters);
+    let converters = cut(bytes, CONVERTERS, tariffs.end(), 5 * count)?;
     Ok(Plan {
         header,
         numbers,
@@ -67,18 +60,19 @@ fn cut_sections<'p>(bytes: &'p [u8], header: Header) -> Result<Plan<'p>, Section
 }
 
 // The records of the sections: channel numbers, then spans, then converters.
+#[tactic(auto, using(crate::proofs::Firsts::first_row))]
 fn check_records(plan: Plan) -> Result<(), RecordFault>
     requires { Fitted plan }
     ensures { result ≡ unless (first (rows_of plan.entry)) tt }
 {
-    let header = plan.header;
-    let counts = header.counts();
-    checks::check_numbers(plan.numbers, counts.channels)?;
-    checks::check_spans(plan.spans, counts)?;
-    checks::check_converters(plan.converters, counts, usize::from(header.converters))?;
-    Ok(())
+    let counts = plan.header.counts();
+    check_section::<i16, 2>(plan.numbers, counts)?;
+    check_section::<Span, 2>(plan.spans, counts)?;
+    check_section::<Converter, 5>(plan.converters, counts)
 }
 
+// The sections, cut and then judged.
+#[tactic(auto, using(crate::proofs::Firsts::first_section, crate::proofs::Firsts::rows_are))]
 fn read_sections<'p>(bytes: &'p [u8], header: Header) -> Result<Plan<'p>, SectionFault>
     requires is { header ≡ header_of bytes.now }
     requires sound { first (header_faults bytes.now) ≡ None }
@@ -89,6 +83,8 @@ fn read_sections<'p>(bytes: &'p [u8], header: Header) -> Result<Plan<'p>, Sectio
     Ok(plan)
 }
 
+// The header, and then the sections.
+#[tactic(auto, using(crate::proofs::Firsts::first_in_file))]
 fn read_file<'p>(bytes: &'p [u8]) -> Result<Plan<'p>, FileFault>
     ensures { MatchResult result (λ p. (first (file_faults bytes.now) ≡ None) × Told bytes.now (header_of bytes.now) p × Fitted p) (λ e. first (file_faults bytes.now) ≡ Some e) }
 {
@@ -98,18 +94,18 @@ fn read_file<'p>(bytes: &'p [u8]) -> Result<Plan<'p>, FileFault>
 }
 
 // Whether the two tables of tariffs have room for the plan's network.
-fn check_room(counts: Counts, tariffs: &[u16], converters: &[u16]) -> Result<(), BookFault>
-    requires { Counted counts }
-    ensures { result ≡ (if roomy counts (length tariffs.now) (length converters.now) then Ok tt else Err LoadTable) }
+fn check_room(extent: Extent, tariffs: &[u16], converters: &[u16]) -> Result<(), BookFault>
+    ensures { result ≡ (if roomy extent.counts (length tariffs.now) (length converters.now) then Ok tt else Err LoadTable) }
 {
-    let room = counts.nodes * counts.channels * counts.channels;
-    if tariffs.len() < counts.spans * counts.channels || converters.len() < room {
+    if tariffs.len() < extent.span_entries() || converters.len() < extent.converter_entries() {
         return Err(BookFault::LoadTable);
     }
     Ok(())
 }
 
-// The first fault of a plan that is to be loaded into two tables, or the plan.
+// The first fault of a plan that is to be loaded into two tables, or the plan. The tables are two
+// slices here and in the calls to come, since this one only reads how long they are.
+#[tactic(auto, using(crate::proofs::Firsts::first_of_load, crate::proofs::Heads::headed, crate::proofs::Outside::unread))]
 pub fn check<'p>(
     bytes: &'p [u8],
     tariffs: &[u16],
@@ -119,6 +115,6 @@ pub fn check<'p>(
     ensures unread { Unread }
 {
     let plan = read_file(bytes)?;
-    check_room(plan.header.counts(), tariffs, converters)?;
+    check_room(plan.header.extent(), tariffs, converters)?;
     Ok(plan)
 }

@@ -2,12 +2,9 @@ ghost use Rattle.std.specs.Prelude.{◌≡◌, ◌+◌, ◌*◌, ◌<◌, ◌≤
 ghost use Rattle.fault.specs.Judging.{first};
 ghost use Rattle.plan.specs.Bytes.{wide};
 ghost use Rattle.plan.specs.Cuts.{Cut};
-ghost use Rattle.plan.specs.Records.{number_in, span_in, tariff_in, converter_in};
 ghost use Rattle.plan.specs.Sections.{pair_faults};
 
-use super::record::Converter;
 use fault::plan::SectionFault;
-use network::span::Span;
 
 // A section of the plan, read where the plan lies: its bytes and the place of the first.
 #[derive(Clone, Copy)]
@@ -16,11 +13,12 @@ pub struct Window<'p> {
     pub start: usize,
 }
 
+// The number of four bytes from a place on.
 fn wide_at(bytes: &[u8], at: usize) -> u32
     requires { at + 3 < length bytes.now }
     ensures { result ≡ wide bytes.now at }
 {
-    u32::from_be_bytes([bytes[at], bytes[at + 1], bytes[at + 2], bytes[at + 3]])
+    u32::from_be_bytes(*bytes[at..].first_chunk().unwrap())
 }
 
 // The section that a pair of the header tells, which begins at a floor or later.
@@ -34,15 +32,17 @@ pub(crate) fn cut<'p>(
     ensures { MatchResult result (λ w. Cut bytes.now pair floor size w) (λ e. first (pair_faults bytes.now pair floor size) ≡ Some e) }
 {
     let offset = wide_at(bytes, pair);
-    let extent = wide_at(bytes, pair + 4);
+    let extends = wide_at(bytes, pair + 4);
+    // 32 bits always fit
     let start = offset as usize;
+    let length = extends as usize;
     if start < floor {
         return Err(SectionFault::Early { at: pair });
     }
-    if extent as usize != size {
+    if length != size {
         return Err(SectionFault::Length { at: pair });
     }
-    let end = offset as usize + extent as usize;
+    let end = start + length;
     if end > bytes.len() {
         return Err(SectionFault::Beyond { at: pair });
     }
@@ -53,57 +53,19 @@ pub(crate) fn cut<'p>(
 }
 
 impl Window<'_> {
+    // The place after its last byte.
+    pub(crate) fn end(&self) -> usize
+        requires { self.now.start + length self.now.bytes.now ≤ 65536 }
+        ensures { result ≡ self.now.start + length self.now.bytes.now }
+    {
+        self.start + self.bytes.len()
+    }
+
     // The place of the first byte of record i, where records have `size` bytes.
     pub(crate) fn place(&self, size: usize, i: usize) -> usize
         requires { self.now.start + size * i ≤ 65536 }
         ensures { result ≡ self.now.start + size * i }
     {
         self.start + size * i
-    }
-
-    // Channel number i.
-    pub(crate) fn number(&self, i: usize) -> i16
-        requires { 2 * i + 1 < length self.now.bytes.now }
-        ensures { result ≡ number_in self.now.bytes.now i }
-    {
-        i16::from_be_bytes([self.bytes[2 * i], self.bytes[2 * i + 1]])
-    }
-
-    // Span i.
-    pub(crate) fn span(&self, i: usize) -> Span
-        requires { 2 * i + 1 < length self.now.bytes.now }
-        ensures { result ≡ span_in self.now.bytes.now i }
-    {
-        match &self.bytes[2 * i..2 * i + 2] {
-            [tail, head] => Span {
-                tail: *tail,
-                head: *head,
-            },
-            _ => unreachable(),
-        }
-    }
-
-    // Tariff i.
-    pub(crate) fn tariff(&self, i: usize) -> u16
-        requires { 2 * i + 1 < length self.now.bytes.now }
-        ensures { result ≡ tariff_in self.now.bytes.now i }
-    {
-        u16::from_be_bytes([self.bytes[2 * i], self.bytes[2 * i + 1]])
-    }
-
-    // Converter i.
-    pub(crate) fn converter(&self, i: usize) -> Converter
-        requires { 5 * i + 4 < length self.now.bytes.now }
-        ensures { result ≡ converter_in self.now.bytes.now i }
-    {
-        match &self.bytes[5 * i..5 * i + 5] {
-            [node, from, to, hi, lo] => Converter {
-                node: *node,
-                from: *from,
-                to: *to,
-                tariff: u16::from_be_bytes([*hi, *lo]),
-            },
-            _ => unreachable(),
-        }
     }
 }

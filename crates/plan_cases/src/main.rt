@@ -5,7 +5,7 @@
 
 ghost use Rattle.std.specs.Prelude.{◌≤◌};
 
-use fault::report::{Fault, Layer};
+use fault::report::Fault;
 use network::Network;
 use plan::reader::check;
 use std::alloc::{AllocError, Global};
@@ -15,6 +15,7 @@ use std::io::{BufRead, BufReader, BufWriter, Write};
 // What the tables hold before they are lent.
 const STALE: u16 = 7;
 
+// What a digit in hexadecimal counts, 0 where it is none (the library would refuse it).
 fn nibble(digit: u8) -> u8
     ensures { result ≤ 15 }
 {
@@ -25,89 +26,73 @@ fn nibble(digit: u8) -> u8
     }
 }
 
-fn bytes_of(heap: Global, hex: &[u8], zeros: usize) -> Result<Vec<u8>, AllocError> {
+// A plan's bytes: those written in hexadecimal, and then zeros.
+fn bytes_of(heap: Global, digits: &[u8], zeros: usize) -> Result<Vec<u8>, AllocError> {
     let mut bytes = Vec::new(heap);
-    for i in 0..hex.len() / 2 {
-        bytes.push(nibble(hex[2 * i]) * 16 + nibble(hex[2 * i + 1]))?;
+    let (pairs, _) = digits.as_chunks::<2>();
+    for [high, low] in pairs {
+        bytes.push(nibble(*high) * 16 + nibble(*low))?;
     }
-    for _ in 0..zeros {
-        bytes.push(0)?;
-    }
+    bytes.resize(bytes.len().saturating_add(zeros), 0)?;
     Ok(bytes)
 }
 
+// A digest with one more value.
 fn mix(digest: u32, value: u32) -> u32 {
     digest.wrapping_mul(31).wrapping_add(value)
 }
 
+// A tariff's value in a digest, where none has a value of its own.
 fn tariff(entry: Option<u16>) -> u32 {
-    match entry {
-        Some(tariff) => u32::from(tariff),
-        None => 65536,
-    }
+    entry.map_or(65536, u32::from)
 }
 
-fn mix_numbers(network: &Network, mut digest: u32) -> u32 {
-    for channel in 0..network.counts().channels {
-        if let Some(n) = network.number(channel) {
-            digest = mix(digest, u32::from(u16::from_be_bytes(n.to_be_bytes())));
-        }
-    }
-    digest
+// The channel numbers.
+fn mix_numbers(network: &Network, digest: u32) -> u32 {
+    (0..network.counts().channels)
+        .filter_map(|channel| network.number(channel))
+        .map(|n| u32::from(n.cast_unsigned()))
+        .fold(digest, mix)
 }
 
-fn mix_spans(network: &Network, mut digest: u32) -> u32 {
-    for span in 0..network.counts().spans {
-        if let Some(ends) = network.span(span) {
-            digest = mix(mix(digest, u32::from(ends.tail)), u32::from(ends.head));
-        }
-        for channel in 0..network.counts().channels {
-            digest = mix(digest, tariff(network.tariff(span, channel)));
-        }
-    }
-    digest
+// The tariffs of a span.
+fn mix_tariffs(network: &Network, span: usize, digest: u32) -> u32 {
+    (0..network.counts().channels)
+        .map(|channel| tariff(network.tariff(span, channel)))
+        .fold(digest, mix)
 }
 
-fn mix_node(network: &Network, node: usize, mut digest: u32) -> u32 {
+// The spans, each with its tariffs.
+fn mix_spans(network: &Network, digest: u32) -> u32 {
+    (0..network.counts().spans).fold(digest, |digest, span| {
+        let joined = network.span(span).map_or(digest, |ends| {
+            mix(mix(digest, u32::from(ends.tail)), u32::from(ends.head))
+        });
+        mix_tariffs(network, span, joined)
+    })
+}
+
+// The converters of a node.
+fn mix_node(network: &Network, node: usize, digest: u32) -> u32 {
     let channels = network.counts().channels;
-    for from in 0..channels {
-        for to in 0..channels {
-            digest = mix(digest, tariff(network.converter(node, from, to)));
-        }
-    }
-    digest
+    (0..channels)
+        .flat_map(|from| (0..channels).map(move |to| (from, to)))
+        .map(|(from, to)| tariff(network.converter(node, from, to)))
+        .fold(digest, mix)
 }
 
+// A digest of all that a network tells.
 fn digest_of(network: &Network) -> u32 {
-    let mut digest = mix_spans(network, mix_numbers(network, 1));
-    for node in 0..network.counts().nodes {
-        digest = mix_node(network, node, digest);
-    }
-    digest
+    let digest = mix_spans(network, mix_numbers(network, 1));
+    (0..network.counts().nodes).fold(digest, |digest, node| mix_node(network, node, digest))
 }
 
+// How many entries were left alone.
 fn stale(table: &[u16]) -> usize {
-    let mut count = 0usize;
-    for entry in table {
-        if *entry == STALE {
-            count = count.saturating_add(1);
-        }
-    }
-    count
+    table.iter().filter(|entry| **entry == STALE).count()
 }
 
-fn layer_name(layer: Layer) -> &'static str {
-    match layer {
-        Layer::File => "file",
-        Layer::Section => "section",
-        Layer::Record => "record",
-        Layer::Word => "word",
-        Layer::Ticket => "ticket",
-        Layer::Book => "book",
-        Layer::Label => "label",
-    }
-}
-
+// Prints the refusal of a plan, or what its network tells.
 fn judge<W: Write>(
     out: &mut W,
     bytes: &[u8],
@@ -118,43 +103,38 @@ fn judge<W: Write>(
         Ok(plan) => plan,
         Err(fault) => {
             let report = fault.report();
-            let number = report.number;
-            let place = report.place;
-            let layer = layer_name(report.layer);
+            let layer = report.layer;
             let kept = stale(tariffs) == tariffs.len() && stale(converters) == converters.len();
-            return writeln!(out, "NO {number} {place} {layer} {kept}");
+            return writeln!(out, "NO {report} {layer} {kept}");
         }
     };
     plan.load(tariffs, converters);
     let network = plan.network(tariffs, converters);
     let counts = network.counts();
-    let nodes = counts.nodes;
-    let spans = counts.spans;
-    let channels = counts.channels;
-    let spacing = network.spacing();
+    let spacing = network.spacing().code();
     let digest = digest_of(&network);
     let left = stale(tariffs);
     let beyond = stale(converters);
     writeln!(
         out,
-        "OK {nodes} {spans} {channels} {spacing} {digest:08X} {left} {beyond}"
+        "OK {} {} {} {spacing} {digest:08X} {left} {beyond}",
+        counts.nodes, counts.spans, counts.channels
     )
 }
 
+// A number of a line, 0 where there is none.
 fn number(text: Option<&str>) -> usize {
-    match text {
-        Some(digits) => digits.parse::<usize>().unwrap_or(0),
-        None => 0,
-    }
+    text.and_then(|digits| digits.parse().ok()).unwrap_or(0)
 }
 
+// Judges the plan of a line.
 fn run<W: Write>(out: &mut W, heap: Global, line: &str) -> anyhow::Result<()> {
     let mut parts = line.split(' ');
-    let hex = parts.next().unwrap_or("");
+    let digits = parts.next().unwrap_or("");
     let zeros = number(parts.next());
     let tariffs = number(parts.next());
     let converters = number(parts.next());
-    let bytes = bytes_of(heap, hex.as_bytes(), zeros)?;
+    let bytes = bytes_of(heap, digits.as_bytes(), zeros)?;
     let mut tariffs = vec![in heap; STALE; tariffs]?;
     let mut converters = vec![in heap; STALE; converters]?;
     judge(
@@ -166,6 +146,7 @@ fn run<W: Write>(out: &mut W, heap: Global, line: &str) -> anyhow::Result<()> {
     Ok(())
 }
 
+// Line after line. Each program has its own: a shared one would be public and could promise nothing.
 fn main(rt: HostRuntime) -> anyhow::Result<()> {
     let heap = rt.alloc();
     let mut out = BufWriter::new(heap, rt.stdout())?;

@@ -3,8 +3,7 @@ use Rattle.std.specs.Prelude.{ℕ, zero, suc, cond, List, [], ◌∷◌, Some, N
 use Rattle.network.specs.declared.counts.Counts.{Counts}
 use Rattle.network.specs.declared.step.Step.{Step}
 use Rattle.network.specs.Tariffs.{span_entry}
-use Rattle.records.specs.declared.channel.Channel.{Channel}
-use Rattle.records.specs.declared.channel.Channel.TheVariants as channel
+use Rattle.records.specs.declared.channel.Hold.{Hold}
 use Rattle.records.specs.declared.circuit.Circuit.{Circuit}
 use Rattle.records.specs.declared.circuit.Circuit.TheVariants as circuit
 use Rattle.records.specs.declared.circuit.Route.{Route}
@@ -15,19 +14,23 @@ standing circuit.Free = None
 standing (circuit.Offered r) = Some r
 standing (circuit.Lit r) = Some r
 
+-- the record of a channel: what holds it, none where it is free
+abbrev pub Channel : Type 0
+Channel = Option Hold
+
 -- the circuit that holds a channel
 abbrev pub holder : Channel → Option ℕ
-holder channel.Free = None
-holder (channel.Held c s) = Some c
+holder None = None
+holder (Some h) = Some h.circuit
 
 -- the step that follows on that circuit's path
 abbrev pub next : Channel → Option Step
-next channel.Free = None
-next (channel.Held c s) = s
+next None = None
+next (Some h) = h.next
 
 -- the record of the channel that a step takes; past the end of the table all is free
 abbrev pub channel_at : Counts → List Channel → Step → Channel
-channel_at n channels s = slice_index_or channels (span_entry n s.span s.channel) channel.Free
+channel_at n channels s = slice_index_or channels (span_entry n s.span s.channel) None
 
 -- at most m steps of a chain, from the one that is next
 unfoldable pub chain : Counts → List Channel → ℕ → Option Step → List Step

@@ -2,10 +2,9 @@
 use Rattle.std.specs.Prelude.{◌≡◌, ℕ, ◌<◌, ◌≤◌, Bool, true, false, not, ◌&&◌, ◌||◌, List, [], ◌∷◌, length, Some, None, Option, ◌==◌}
 use Rattle.network.specs.declared.counts.Counts.{Counts}
 use Rattle.network.specs.declared.step.Step.{Step}
-use Rattle.records.specs.declared.channel.Channel.{Channel}
 use Rattle.records.specs.declared.circuit.Circuit.{Circuit}
 use Rattle.records.specs.declared.circuit.Route.{Route}
-use Rattle.records.specs.Chains.{holder, channel_at, chain, after, route_of, path_of}
+use Rattle.records.specs.Chains.{Channel, holder, channel_at, chain, after, route_of, path_of}
 
 -- a step takes a channel of the network
 abbrev pub Within : Counts → Step → Type 0

@@ -1,9 +1,12 @@
 use network::step::Step;
 
-// The record of one channel of one span. A held one names its circuit, and the step that follows
-// on the circuit's path, none at the path's end.
+// What holds a channel: a circuit, and the step that follows on the circuit's path, none at the
+// path's end.
 #[derive(Clone, Copy, PartialEq, Eq, Debug)]
-pub enum Channel {
-    Free,
-    Held { circuit: u8, next: Option<Step> },
+pub struct Hold {
+    pub circuit: u8,
+    pub next: Option<Step>,
 }
+
+// The record of one channel of one span: what holds it, none where it is free.
+pub type Channel = Option<Hold>;

@@ -3,7 +3,7 @@ use Rattle.std.proofs.Common.{◌≡◌, ◌*◌, ◌≤◌, length, Ok, Err, mu
 use Rattle.std.proofs.lemmas.Bool.{and_from, cond-true, le-leb}
 use Rattle.fault.specs.declared.book.BookFault.TheVariants.{BookTable}
 use Rattle.network.specs.declared.counts.Counts.{Counts}
-use Rattle.network.specs.Limits.{Counted}
+use Rattle.network.specs.Extents.{Counted}
 use Rattle.network.specs.Tariffs.{span_entries}
 use Rattle.records.specs.Chains.{circuit_count}
 use Rattle.book.specs.Opening.{fits, room}

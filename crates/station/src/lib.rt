@@ -5,6 +5,7 @@ ghost use Rattle.std.specs.Prelude.{◌≤◌, length};
 ghost use Rattle.desk.specs.Inputs.{AnsweredByLines};
 
 use book::Book;
+use book::lent::Lent;
 use desk::input::{feed, finish};
 use desk::line::Line;
 use desk::reply::PlanRefusal;
@@ -38,17 +39,18 @@ fn read_plan(rt: &HostRuntime) -> io::Result<Vec<u8>> {
 
 // Answers the tickets of the input, chunk by chunk.
 fn serve(rt: &HostRuntime, book: &mut Book<'_, '_, '_>) -> io::Result<()> {
+    let mut line = Line::new();
     let mut chunk = vec![in rt.alloc(); 0u8; CHUNK]?;
     let mut out = String::new(rt.alloc());
-    let mut line = Line::new();
     let mut input = rt.stdin();
     let mut output = rt.stdout();
+    // reading has no end that is known: a chunk of no bytes is the last
     for _ in 0..u64::MAX {
         let count = input.read(chunk.as_mut_slice())?;
         if count == 0 {
             break;
         }
-        feed(book, &mut line, &chunk.as_slice()[0..count], &mut out)?;
+        feed(book, &mut line, &chunk.as_slice()[..count], &mut out)?;
         output.write_all(out.as_bytes())?;
         out.clear();
     }
@@ -58,16 +60,15 @@ fn serve(rt: &HostRuntime, book: &mut Book<'_, '_, '_>) -> io::Result<()> {
 
 // Opens the book of a network and serves.
 fn work(rt: &HostRuntime, network: &Network<'_, '_>) -> io::Result<()> {
-    let mut channels = vec![in rt.alloc(); Channel::Free; SPAN_CHANNELS]?;
+    let mut channels: Vec<Channel> = vec![in rt.alloc(); None; SPAN_CHANNELS]?;
     let mut circuits = vec![in rt.alloc(); Circuit::Free; CIRCUITS]?;
     let mut spans = vec![in rt.alloc(); SpanState::Open; SPANS]?;
-    let mut book = Book::open(
-        network,
-        1,
-        channels.as_mut_slice(),
-        circuits.as_mut_slice(),
-        spans.as_mut_slice(),
-    );
+    let lent = Lent {
+        channels: channels.as_mut_slice(),
+        circuits: circuits.as_mut_slice(),
+        spans: spans.as_mut_slice(),
+    };
+    let mut book = Book::open(network, 1, lent);
     serve(rt, &mut book)
 }
 
@@ -80,9 +81,8 @@ fn load(
 ) -> io::Result<()> {
     match check(bytes, tariffs, converters) {
         Err(fault) => {
-            let refusal = PlanRefusal {
-                report: fault.report(),
-            };
+            let report = fault.report();
+            let refusal = PlanRefusal { report };
             println!(rt; "{refusal}")
         }
         Ok(plan) => {
@@ -92,11 +92,8 @@ fn load(
     }
 }
 
-// Reads `plan.bin` in the working folder, then tickets from standard input, and replies to each.
-// What it reads and prints no contract can say; what it says to the lines that it reads is a law.
-pub fn run(rt: &HostRuntime) -> io::Result<()>
-    ensures { AnsweredByLines }
-{
+// Reads the plan, then the tickets, and replies to each.
+fn converse(rt: &HostRuntime) -> io::Result<()> {
     let bytes = read_plan(rt)?;
     let mut tariffs = vec![in rt.alloc(); ABSENT; SPAN_CHANNELS]?;
     let mut converters = vec![in rt.alloc(); ABSENT; CONVERTERS]?;
@@ -106,4 +103,12 @@ pub fn run(rt: &HostRuntime) -> io::Result<()>
         tariffs.as_mut_slice(),
         converters.as_mut_slice(),
     )
+}
+
+// Reads `plan.bin` in the working folder, then tickets from standard input, and replies to each.
+// What it reads and prints no contract can say; what it says to the lines that it reads is a law.
+pub fn run(rt: &HostRuntime) -> io::Result<()>
+    ensures { AnsweredByLines }
+{
+    converse(rt)
 }

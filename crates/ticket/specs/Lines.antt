@@ -1,5 +1,5 @@
 -- A line of bytes: its runs, its words, and what is judged of it. Places are counted from 1.
-use Rattle.std.specs.Prelude.{ℕ, zero, suc, ◌+◌, ◌-◌, ◌*◌, ◌≤◌, Bool, cond, not, ◌&&◌, ◌||◌, List, [], ◌∷◌, ◌++◌, length, fold, ◌==◌, nat_le, nat_lt, slice_index, slice_range}
+use Rattle.std.specs.Prelude.{ℕ, zero, suc, ◌+◌, ◌-◌, ◌*◌, Bool, true, cond, not, ◌&&◌, ◌||◌, List, [], ◌∷◌, ◌++◌, length, fold, ◌==◌, nat_le, nat_lt, slice_index, slice_range}
 use Rattle.std.specs.List.{range_with_len, flat_map}
 use Rattle.fault.specs.Judging.{Judgement, judge}
 use Rattle.fault.specs.declared.ticket.WordFault.{WordFault}
@@ -95,9 +95,9 @@ abbrev pub token : ℕ → List ℕ → Token
 token at w = cond (is_digit (slice_index w 0)) (number at w) (name at w)
 
 -- a number of at most five digits, at most 65,535; or a name
-abbrev pub Small : Token → Type 0
-Small (number at w) = (length w ≤ 5) × (value w ≤ 65535)
-Small (name at w) = Unit {0}
+abbrev pub small : Token → Bool
+small (number at w) = nat_le (length w) 5 && nat_le (value w) 65535
+small (name at w) = true
 
 -- the word from s on, up to e, where there is a byte
 abbrev pub word_from : List ℕ → ℕ → ℕ → List Token

@@ -1,15 +1,14 @@
 -- What the words of a line say.
-use Rattle.std.specs.Prelude.{◌≡◌, ℕ, ◌+◌, ◌<◌, cond, List, [], ◌∷◌, length, drop, Ok, Err, codes, Result, ◌==◌, slice_index_or}
+use Rattle.std.specs.Prelude.{ℕ, ◌+◌, cond, List, [], ◌∷◌, length, drop, Ok, Err, codes, Result, ◌==◌, slice_index_or}
 use Rattle.std.specs.Str.{bytes_eq}
 use Rattle.fault.specs.Judging.{Judgement, judge, first, inside, unless}
 use Rattle.fault.specs.declared.ticket.TicketFault.{TicketFault}
 use Rattle.fault.specs.declared.ticket.TicketFault.TheVariants as fault
-use Rattle.ticket.specs.Lines.{Token, number, name, place, value, token_of, of_length, of_line, words}
+use Rattle.ticket.specs.Lines.{Token, number, name, place, value, of_length, of_line, words}
 use Rattle.ticket.specs.declared.Ticket.{Ticket}
 use Rattle.ticket.specs.declared.Ticket.TheVariants.{Shut}
-use Rattle.ticket.specs.declared.word.Word.{Word}
-use Rattle.ticket.specs.declared.order.Verb.{Verb}
-use Rattle.ticket.specs.declared.order.Verb.TheVariants as verb
+use Rattle.ticket.specs.declared.verb.Verb.{Verb}
+use Rattle.ticket.specs.declared.verb.Verb.TheVariants as verb
 
 abbrev pub then : {A B E : Type 0} → Result A E → (A → Result B E) → Result B E
 then (Ok x) k = k x
@@ -31,12 +30,6 @@ number_of (name at w) = Err (fault.Sort at)
 abbrev pub beyond : ℕ → List Token → ℕ
 beyond n [] = n + 1
 beyond n (t ∷ ts) = place t
-
--- how the fault of a wrong count tells its place: the first surplus word, or the end of the line
-pub record Miscounted (ws : List Word) (k n : ℕ) (f : TicketFault) : Type 0 where
-  pub wrong : length ws ≡ k → ⊥
-  pub missing : length ws < k → f ≡ fault.Count (n + 1)
-  pub surplus : k < length ws → (d : Word) → f ≡ fault.Count (place (token_of (slice_index_or ws k d)))
 
 -- the word at k
 abbrev pub nth : List Token → ℕ → Token

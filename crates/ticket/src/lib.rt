@@ -5,14 +5,13 @@ ghost use Rattle.std.specs.Prelude.{◌≡◌};
 ghost use Rattle.ticket.specs.Lines.{of_length};
 ghost use Rattle.ticket.specs.Tickets.{ticket_of};
 
-use cut::cut;
 use fault::ticket::TicketFault;
-use order::order;
-use word::{Part, Word};
+use words::Words;
 
-mod cut;
-mod order;
+mod spot;
+mod verb;
 pub mod word;
+mod words;
 
 // What a ticket asks for.
 #[derive(Clone, Copy, PartialEq, Eq, Debug)]
@@ -34,8 +33,5 @@ pub fn read(line: &[u8]) -> Result<Ticket, TicketFault>
     if !of_length(line) {
         return Err(TicketFault::Length);
     }
-    // 80 bytes have at most 40 words
-    let mut held = [Word::Name(Part { bytes: line, at: 0 }); 40];
-    let count = cut(line, &mut held)?;
-    order(&held[0..count], line.len())
+    Words::cut(line)?.order()
 }

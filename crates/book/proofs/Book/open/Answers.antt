@@ -1,15 +1,15 @@
-use Rattle.std.proofs.Common.{◌≡◌, Ok, ap, ◌∙◌, rules}
+use Rattle.std.proofs.Common.{◌≡◌, Ok, ap, ◌∙◌}
 use Rattle.network.specs.declared.counts.Counts.{Counts}
-use Rattle.book.specs.State.{Tables, lent}
+use Rattle.book.specs.State.{Tables, contents}
 use Rattle.book.specs.Opening.{room}
-use Rattle.book.proofs.Opened.{roomy, opened_sound}
+use Rattle.book.proofs.Opened.{opened_long, opened_sound}
 use Rattle.book.proofs.Book.open.Goals as goal
 
 pub invariant_of-result : goal.invariant_of-result
 invariant_of-result c =
-    let n : Counts = c.counts-counts.result in
-    let before : Tables = lent c.args.channels.now c.args.circuits.now c.args.spans.now in
-    let after : Tables = lent c.clear.new.channels c.clear.new.circuits c.clear.new.spans in
-    let e : room n before ≡ Ok tt = ap (λ (m : Counts). room m before) c.counts-counts.ensures ∙ c.requires in
-    let long = roomy n before e in
-    record { counted = search rules; wide = search rules; rows = search rules; spanned = search rules; sound = ∣ opened_sound n before after e c.clear.ensures ∣₁ }
+    let n : Counts = c.extent-extent.result.counts in
+    let before : Tables = contents c.args.lent in
+    let after : Tables = contents c.clear.new.self in
+    let e : room n before ≡ Ok tt = ap (λ (m : Counts). room m before) c.extent-extent.ensures ∙ c.requires in
+    let long = opened_long n before after e c.clear.ensures.contents in
+    record { wide = long.0; rows = long.1; spanned = long.2; sound = ∣ opened_sound n before after e c.clear.ensures.contents ∣₁ }

@@ -7,7 +7,7 @@ use Rattle.desk.proofs.input.feed.Given as goal
 abbrev pub invariant-loop-byte : goal.invariant-loop-byte
 invariant-loop-byte l =
     Kept l.initial.book l.book
-    × Going l.initial.book.counts (desk_of l.initial.book l.initial.line) (string_bytes l.initial.out) l.chunk
+    × Going l.initial.book.extent.counts (desk_of l.initial.book l.initial.line) (string_bytes l.initial.out) l.chunk
     (desk_of l.book l.line)
     (string_bytes l.out)
     l.byte-index

@@ -5,6 +5,6 @@ use Rattle.plan.specs.Records.{converter_in}
 use Rattle.plan.specs.Telling.{listed}
 use Rattle.plan.proofs.loading.write_converters.Given as goal
 
-abbrev pub invariant-loop-i : goal.invariant-loop-i
-invariant-loop-i l =
-    l.table ≡ tabled (converter_entries l.counts) (listed l.counts (converter_in l.window.bytes.now) l.i) l.initial.table
+abbrev pub invariant-loop-bytes : goal.invariant-loop-bytes
+invariant-loop-bytes l =
+    l.table ≡ tabled (converter_entries l.extent.counts) (listed l.extent.counts (converter_in l.window.bytes.now) l.bytes-index) l.initial.table

@@ -1,0 +1,37 @@
+ghost use Rattle.std.specs.Prelude.{◌≡◌};
+ghost use Rattle.ticket.specs.Lines.{token_of};
+ghost use Rattle.ticket.specs.Tickets.{wants, verb_of};
+
+use super::word::Word;
+use fault::ticket::TicketFault;
+
+// The first word of a ticket.
+#[derive(Clone, Copy)]
+pub(crate) enum Verb {
+    Shut,
+}
+
+impl Verb {
+    // How many words follow it.
+    pub(crate) fn takes(self) -> usize
+        ensures { result ≡ wants self }
+    {
+        match self {
+            Verb::Shut => 1,
+        }
+    }
+}
+
+impl TryFrom<Word<'_>> for Verb {
+    type Error = TicketFault;
+
+    ghost try_from_gives = { λ w r. r ≡ verb_of (token_of w) };
+
+    // The verb that a word is.
+    fn try_from(word: Word<'_>) -> Result<Verb, TicketFault> {
+        match word {
+            Word::Name(part) if part.bytes == b"SHUT".as_slice() => Ok(Verb::Shut),
+            _ => Err(TicketFault::Verb { at: word.place() }),
+        }
+    }
+}

@@ -1,0 +1,109 @@
+ghost use Rattle.std.specs.Prelude.{◌≡◌, ◌≢◌, ◌+◌, ◌*◌, ◌<◌, ◌≤◌, true, false, ◌++◌, map, length, drop, Some, None, IsTrue, MatchResult};
+ghost use Rattle.std.specs.List.{All};
+ghost use Rattle.fault.specs.Judging.{first};
+ghost use Rattle.fault.specs.declared.ticket.TicketFault.TheVariants as ticket_fault;
+ghost use Rattle.fault.specs.declared.ticket.WordFault.TheVariants as word_fault;
+ghost use Rattle.arrayvec.specs.ArrayVec.{array_vec_len};
+ghost use Rattle.ticket.specs.Lines.{part, small, too_large, token_of, word_from, of_line, words};
+ghost use Rattle.ticket.specs.Tickets.{beyond, meaning, nth, number_of};
+
+use super::Ticket;
+use super::spot::Spot;
+use super::verb::Verb;
+use super::word::{Word, number, of_word};
+use arrayvec::ArrayVec;
+use fault::ticket::{TicketFault, WordFault};
+
+// The words of a line of at most 80 bytes, which has at most 40.
+#[derive(Drop)]
+pub(crate) struct Words<'a> {
+    line: &'a [u8],
+    held: ArrayVec<Word<'a>, 40>,
+    ghost short: { length line.now ≤ 80 },
+    ghost numbers_small: { All (λ w. IsTrue (small (token_of w))) held.items },
+}
+
+impl<'a> Words<'a> {
+    // Cuts a line into words.
+    pub(crate) fn cut(line: &'a [u8]) -> Result<Self, WordFault>
+        requires { length line.now ≤ 80 }
+        ensures { MatchResult result (λ w. (first (of_line line.now) ≡ None) × (w.line.now ≡ line.now) × (map token_of w.held.items ≡ words line.now)) (λ e. first (of_line line.now) ≡ Some e) }
+    {
+        let mut words = Words {
+            line,
+            held: ArrayVec::new(),
+        };
+        let mut start = 0;
+        for (i, byte) in line.iter().enumerate() {
+            let run_ends = !of_word(*byte);
+            if run_ends {
+                words.hold(start, i)?;
+                start = i + 1;
+            }
+            Spot { line, i }.judge()?;
+        }
+        words.hold(start, line.len())?;
+        Ok(words)
+    }
+
+    // Holds the word from `start` on, up to `end`, where there is a byte.
+    fn hold(&mut self, start: usize, end: usize) -> Result<(), WordFault>
+        requires within { (start ≤ end) × (end ≤ length self.old.line.now) }
+        requires room { 2 * array_vec_len self.old.held ≤ start }
+        ensures same_line { self.new.line ≡ self.old.line }
+        ensures room { 2 * array_vec_len self.new.held ≤ end + 1 }
+        ensures held { MatchResult result (λ _. (too_large (part self.old.line.now start end) ≡ false) × (map token_of self.new.held.items ≡ map token_of self.old.held.items ++ word_from self.old.line.now start end)) (λ e. (too_large (part self.old.line.now start end) ≡ true) × (e ≡ word_fault.Large (start + 1))) }
+    {
+        if start < end {
+            self.held.push(Word::of(self.line, start, end)?);
+        }
+        Ok(())
+    }
+
+    // What the words say.
+    pub(crate) fn order(&self) -> Result<Ticket, TicketFault>
+        ensures { result ≡ meaning (length self.now.line.now) (map token_of self.now.held.items) }
+    {
+        let Some(first) = self.held.first() else {
+            return Err(TicketFault::Verb { at: 1 });
+        };
+        let verb = Verb::try_from(*first)?;
+        self.counted(verb.takes())?;
+        match verb {
+            Verb::Shut => Ok(Ticket::Shut {
+                span: self.number(1)?,
+            }),
+        }
+    }
+
+    // Refuses too many words, or too few, after the verb.
+    fn counted(&self, wanted: usize) -> Result<(), TicketFault>
+        requires { wanted < 80 }
+        ensures { MatchResult result (λ _. length self.now.held.items ≡ wanted + 1) (λ e. (length self.now.held.items ≢ wanted + 1) × (e ≡ ticket_fault.Count (beyond (length self.now.line.now) (drop (wanted + 1) (map token_of self.now.held.items))))) }
+    {
+        if let Some(surplus) = self.held.get(wanted + 1) {
+            return Err(TicketFault::Count {
+                at: surplus.place(),
+            });
+        }
+        if self.held.len() <= wanted {
+            return Err(TicketFault::Count {
+                at: self.line.len() + 1,
+            });
+        }
+        Ok(())
+    }
+
+    // The number that the word at `k` is.
+    fn number(&self, k: usize) -> Result<u16, TicketFault>
+        requires { k < length self.now.held.items }
+        ensures { result ≡ number_of (nth (map token_of self.now.held.items) k) }
+    {
+        let word = self.held[k];
+        let Word::Number(part) = word else {
+            return Err(TicketFault::Sort { at: word.place() });
+        };
+        // it is small, and so it fits
+        Ok(number(part.bytes) as u16)
+    }
+}
