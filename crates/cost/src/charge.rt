@@ -29,7 +29,7 @@ fn added<K: Kind>(kind: &K, value: K::Value, charges: &[Charge]) -> K::Value
         .fold(value, |sum, charge| after(kind, sum, *charge))
 }
 
-// The same. The laws of one step hold of all of them.
+// The value after all of these charges, from left to right. The laws of one step hold of all of them.
 pub fn after_all<K: Kind>(kind: &K, value: K::Value, charges: &[Charge]) -> K::Value
     ensures is { result ≡ after_all K.Kind.ops value charges.now }
     ensures order { Tariffed charges.now → KeepsOrder K.Kind.ops charges.now value result }

@@ -22,7 +22,7 @@ pub const ABSENT: u16 = 65535;
 
 // A network over two tables of tariffs that the caller lends: one entry for each channel of each
 // span, and one for each node and pair of channels. 65,535 stands for none. A network is `Copy` and
-// takes no memory, so numbers and ends stand in arrays that the counts cut.
+// allocates nothing, so numbers and ends stand in arrays that the counts cut.
 #[derive(Clone, Copy)]
 pub struct Network<'s, 'c> {
     extent: Extent,

@@ -1,8 +1,9 @@
 -- The network that is made is the one that the plan tells.
-use Rattle.std.proofs.Common.{◌≡◌, ℕ, List, map, take, ℤ, ap, ◌∙◌}
+use Rattle.std.proofs.Common.{◌≡◌, ℕ, List, map, take, ℤ, ap, ◌∙◌, arith}
+use Rattle.std.proofs.lemmas.Bool.Decides.{nat_tests}
 use Rattle.std.specs.List.{range_with_len}
 use Rattle.network.specs.Net.{value}
-use Rattle.network.specs.Spacings.{spacing_by}
+use Rattle.network.specs.Spacings.{Spaced, code_of, spacing_by}
 use Rattle.network.specs.Tables.{tabled}
 use Rattle.network.specs.Tariffs.{span_entries, converter_entries}
 use Rattle.network.specs.declared.counts.Counts.{Counts}
@@ -12,9 +13,18 @@ use Rattle.network.proofs.Filled.{take-tabled}
 use Rattle.plan.specs.declared.record.Converter.{Converter}
 use Rattle.plan.specs.declared.reader.Plan.{Plan}
 use Rattle.plan.specs.Header.{counts_of}
-use Rattle.plan.specs.Plan.{read_by}
+use Rattle.plan.specs.Plan.{Read, read_by}
 use Rattle.plan.specs.Records.{number_in, span_in, tariff_in, converter_in}
 use Rattle.plan.specs.Telling.{listed, tells, tariff_table, converter_table}
+
+-- the spacing of a code has that code
+code_back : (c : ℕ) → Spaced c → code_of (spacing_by c) ≡ c
+code_back c h = grind (arith, nat_tests)
+
+-- and so has the network that a plan tells
+pub code_is : (p : Read) → Spaced p.header.spacing → code_of (tells p).spacing ≡ p.header.spacing
+unfolding tells
+code_is p h = code_back p.header.spacing h
 
 -- a table told of as many entries, counted otherwise
 pub tabled_at : {A : Type 0} (m n : ℕ) (f : ℕ → A) (table old : List A) → m ≡ n → table ≡ tabled m f old → table ≡ tabled n f old

@@ -9,8 +9,8 @@ use network::counts::Counts;
 use network::extent::Extent;
 use network::spacing::Spacing;
 
-// What the plan's first eight bytes tell. The spacing code is as it stands there: any header has its
-// counts.
+// What the plan's first eight bytes tell. The spacing code is as it stands there, 1 to
+// 4 or not, and `counts` takes any header.
 #[derive(Clone, Copy, PartialEq, Eq, Debug)]
 pub struct Header {
     pub spacing: u8,

@@ -2,6 +2,7 @@ ghost use Rattle.std.specs.Prelude.{◌≡◌, ℕ, ◌+◌, ◌*◌, ◌/◌, �
 ghost use Rattle.network.specs.Tables.{filled, tabled};
 ghost use Rattle.network.specs.Tariffs.{absent, converter_entries};
 ghost use Rattle.network.specs.Net.{net};
+ghost use Rattle.network.specs.Spacings.{code_of};
 ghost use Rattle.plan.specs.Faithful.{Faithful};
 ghost use Rattle.plan.specs.Kept.{Accepted};
 ghost use Rattle.plan.specs.Plan.{read_by};
@@ -80,6 +81,7 @@ impl Plan<'_> {
         requires accepted { (bs : List ℕ) × Accepted self bs (length tariffs.now) (length converters.now) }
         requires loaded { Loaded (read_by self) tariffs.now converters.now }
         ensures is { net result ≡ tells (read_by self.entry) }
+        ensures code { code_of (net result).spacing ≡ self.entry.header.spacing }
         ensures faithful { Faithful (read_by self.entry) (net result) }
     {
         let extent = self.header.extent();

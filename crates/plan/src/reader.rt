@@ -104,7 +104,7 @@ fn check_room(extent: Extent, tariffs: &[u16], converters: &[u16]) -> Result<(),
 }
 
 // The first fault of a plan that is to be loaded into two tables, or the plan. The tables are two
-// slices here and in the calls to come, since this one only reads how long they are.
+// slices, here and in `Plan::network`: this call only reads how long they are.
 #[tactic(auto, using(crate::proofs::Firsts::first_of_load, crate::proofs::Heads::headed, crate::proofs::Outside::unread))]
 pub fn check<'p>(
     bytes: &'p [u8],

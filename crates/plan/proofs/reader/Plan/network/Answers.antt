@@ -1,8 +1,11 @@
-use Rattle.std.proofs.Common.{sym, refl, ◌∙◌}
+use Rattle.std.proofs.Common.{sym, refl, ap, ◌∙◌}
+use Rattle.network.specs.Net.{Net}
+use Rattle.network.specs.Spacings.{code_of}
+use Rattle.plan.specs.Plan.{read_by}
 use Rattle.plan.specs.Records.{number_in, span_in}
 use Rattle.plan.proofs.Owed.{owed, owed_at, ranged, rising, joined, few_converters, proper_converters}
 use Rattle.plan.proofs.Listing.{faithful}
-use Rattle.plan.proofs.Told.{tabled_at, tariffs_are, converters_are, told_is}
+use Rattle.plan.proofs.Told.{code_is, tabled_at, tariffs_are, converters_are, told_is}
 use Rattle.plan.proofs.reader.Plan.network.Goals as goal
 
 pub extent-extent-requires : goal.extent-extent-requires
@@ -42,4 +45,4 @@ returns c =
     let is =
     c.make.ensures.is
     ∙ told_is p n c.extent-extent.ensures r refl c.told_spacing-spacing.result c.told_spacing-spacing.ensures c.read_records.new.table _ c.read_records-2.new.table _ tariffs _ converters _ numbers ends (c.requires.loaded.0 ∙ sym (tariffs_are p n c.extent-extent.ensures r refl tariffs)) (c.requires.loaded.1 ∙ sym (converters_are p n c.extent-extent.ensures r refl converters)) in
-    record { is = is; faithful = faithful p _ _ (owed p c.requires.accepted.0 _ _ c.requires.accepted.1) _ is }
+    record { is = is; code = ap (λ (w : Net). code_of w.spacing) is ∙ code_is (read_by p) o.spaced; faithful = faithful p _ _ (owed p c.requires.accepted.0 _ _ c.requires.accepted.1) _ is }
