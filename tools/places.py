@@ -66,67 +66,97 @@ def report(point, path, line, what):
     FOUND[point].append((path, line, re.sub(r"\s+", " ", what.strip())[:150]))
 
 
+# What a line of code shows alone: its point, and the pattern with the part that is printed.
+SHOWN = [
+    # numbers named as kinds
+    (1, r"\b((?:code|kind|spacing|sort|pair|number): (?:u8|u16|u32|usize))\b"),
+    # index loops
+    (3, r"\b(for \w+ in [^{]*\.\.[^{]*|while [^{]*|loop )\{"),
+    # impls of std's traits, orders spelt out, casts
+    (4, r"^(impl[^\n]*\b(?:Fault|From<\w+>|TryFrom<\S+>|fmt::Display|PartialEq|Ord|Into<\w+>) for \w+)"),
+    (4, r"([^\n]*(?:== \w+\.\w+ &&|\w+\.\w+ < \w+\.\w+ *\n? *\|\|)[^\n]*)"),
+    (4, r"([^\n]*\bas (?:u8|u16|u32|usize|i16)\b[^\n]*)"),
+    # arrays, counts beside
+    (6, r"([^\n]*\[[\w:{} ,]*; *[\w]+\][^\n]*)"),
+    (6, r"^( *(?:pub )?(?:len|count): usize,?)$"),
+    # pointers to functions
+    (7, r"(\bfn\(|&dyn |Box<dyn)"),
+]
+
+
+def shown(path, code):
+    for point, pattern in SHOWN:
+        for m in re.finditer(pattern, code, re.M):
+            report(point, path, line_of(code, m.start(1)), m[1])
+
+
+def blocks(pattern, code):
+    """Each match of a head that ends in a brace, with what stands in the braces."""
+    for m in re.finditer(pattern, code):
+        yield m, code[m.end():closing(code, m.end() - 1)]
+
+
+def choices(path, code):
+    """Enums of two cases, and matches whose arms only call."""
+    for m, inner in blocks(r"enum (\w+)[^{]*\{", code):
+        cases = re.findall(r"^ {4}\w+", inner, re.M)
+        if len(cases) == 2:
+            report(1, path, line_of(code, m.start()), f"enum {m[1]}: {' | '.join(c.strip() for c in cases)}")
+    for m, inner in blocks(r"match [^{]*\{", code):
+        calls = re.findall(r"=> [\w.:]+\([^()]*(?:\([^()]*\))*[^()]*\)\??,", inner)
+        made = re.search(r"=> (Ok|Err|Some|Report::new|write!)\(", inner)
+        if len(calls) >= 2 and len(calls) == inner.count("=>") and not made:
+            report(7, path, line_of(code, m.start()), m[0] + f" {len(calls)} calls")
+
+
+def facts_of(head):
+    """The facts of a function's clauses, with its names and numbers taken out."""
+    for c in re.finditer(r"(requires|ensures)\s*\w*\s*\{", head):
+        fact = head[c.end():closing(head, c.end() - 1)].strip()
+        fact = re.sub(r"\b(self|book|window|counts|words|line)\b", "x", re.sub(r"\.(now|old|new|entry)\b", "", fact))
+        for part in re.split(r" × ", re.sub(r"\d+", "0", fact)):
+            yield part.strip("() ")
+
+
+def parameters(head):
+    """Each two parameters of a function."""
+    names = re.findall(r"\b(\w+): ", head.split("requires")[0].split("ensures")[0].split("->")[0])
+    return [(a, b) for i, a in enumerate(names) for b in names[i + 1:]]
+
+
+def often(groups, told):
+    """What stands in three functions or more."""
+    for key, where in groups.items():
+        if len(where) >= 3:
+            report(5, where[0][0], where[0][1], told(key, where))
+
+
+def alike(shapes):
+    """Functions of one shape."""
+    for i, (name, path, line, one) in enumerate(shapes):
+        for other, there, at, two in shapes[i + 1:]:
+            if len(one) > 60 and abs(len(one) - len(two)) < 40 and difflib.SequenceMatcher(None, one, two).ratio() > 0.93:
+                report(2, path, line, f"{name} and {other} ({there}:{at})")
+
+
 def main():
     facts, pairs, shapes = collections.defaultdict(list), collections.defaultdict(list), []
     for path, text in sources():
         code = re.sub(r"//[^\n]*", lambda m: " " * len(m[0]), text)
-        # 1: enums of two cases; numbers named as kinds; a count or a flag answered beside a filled buffer
-        for m in re.finditer(r"enum (\w+)[^{]*\{", code):
-            inner = code[m.end():closing(code, m.end() - 1)]
-            cases = re.findall(r"^ {4}\w+", inner, re.M)
-            if len(cases) == 2:
-                report(1, path, line_of(code, m.start()), f"enum {m[1]}: {' | '.join(c.strip() for c in cases)}")
-        for m in re.finditer(r"\b(code|kind|spacing|sort|pair|number): (u8|u16|u32|usize)\b", code):
-            report(1, path, line_of(code, m.start()), m[0])
-        # 3: index loops
-        for m in re.finditer(r"\b(for \w+ in [^{]*\.\.[^{]*|while [^{]*|loop )\{", code):
-            report(3, path, line_of(code, m.start()), m[1])
-        # 4: impls of std's traits, orders spelt out, casts
-        for m in re.finditer(r"^impl[^\n]*\b(Fault|From<\w+>|TryFrom<\S+>|fmt::Display|PartialEq|Ord|Into<\w+>) for \w+", code, re.M):
-            report(4, path, line_of(code, m.start()), m[0])
-        for m in re.finditer(r"[^\n]*(== \w+\.\w+ &&|\w+\.\w+ < \w+\.\w+ *\n? *\|\|)[^\n]*", code):
-            report(4, path, line_of(code, m.start()), m[0])
-        for m in re.finditer(r"[^\n]*\bas (u8|u16|u32|usize|i16)\b[^\n]*", code):
-            report(4, path, line_of(code, m.start()), m[0])
-        # 5: facts and parameters, counted over all functions
+        shown(path, code)
+        choices(path, code)
         crate = path.split("/")[1]
-        for name, at, head, _ in functions(code):
-            for c in re.finditer(r"(requires|ensures)\s*\w*\s*\{", head):
-                fact = head[c.end():closing(head, c.end() - 1)].strip()
-                fact = re.sub(r"\b(self|book|window|counts|words|line)\b", "x", re.sub(r"\.(now|old|new|entry)\b", "", fact))
-                fact = re.sub(r"\d+", "0", fact)
-                for part in re.split(r" × ", fact):
-                    facts[(crate, part.strip("() "))].append((path, line_of(code, at), name))
-            names = re.findall(r"\b(\w+): ", head.split("requires")[0].split("ensures")[0].split("->")[0])
-            for i, a in enumerate(names):
-                for b in names[i + 1:]:
-                    pairs[(crate, a, b)].append((path, line_of(code, at), name))
-        # 2: functions of one shape
         for name, at, head, body in functions(code):
-            shapes.append((crate, name, path, line_of(code, at), shape(head, body)))
-        # 6: arrays, counts beside, parallel fields
-        for m in re.finditer(r"[^\n]*\[[\w:{} ,]*; *[\w]+\][^\n]*", code):
-            report(6, path, line_of(code, m.start()), m[0])
-        for m in re.finditer(r"^ *(pub )?(len|count): usize,?$", code, re.M):
-            report(6, path, line_of(code, m.start()), m[0])
-        # 7: matches whose arms only call, pointers to functions
-        for m in re.finditer(r"\bfn\(|&dyn |Box<dyn", code):
-            report(7, path, line_of(code, m.start()), m[0])
-        for m in re.finditer(r"match [^{]*\{", code):
-            inner = code[m.end():closing(code, m.end() - 1)]
-            calls = re.findall(r"=> [\w.:]+\([^()]*(?:\([^()]*\))*[^()]*\)\??,", inner)
-            if len(calls) >= 2 and len(calls) == inner.count("=>") and not re.search(r"=> (Ok|Err|Some|Report::new|write!)\(", inner):
-                report(7, path, line_of(code, m.start()), m[0] + f" {len(calls)} calls")
-    for (crate, fact), where in facts.items():
-        if len(where) >= 3 and len(fact) > 3:
-            report(5, where[0][0], where[0][1], f"fact in {len(where)} functions: {fact}")
-    for (crate, a, b), where in pairs.items():
-        if len(where) >= 3:
-            report(5, where[0][0], where[0][1], f"{a} with {b} in {len(where)}: {', '.join(w[2] for w in where)}")
-    for i, (crate, name, path, line, one) in enumerate(shapes):
-        for other_crate, other, there, at, two in shapes[i + 1:]:
-            if len(one) > 60 and abs(len(one) - len(two)) < 40 and difflib.SequenceMatcher(None, one, two).ratio() > 0.93:
-                report(2, path, line, f"{name} and {other} ({there}:{at})")
+            place = (path, line_of(code, at), name)
+            for fact in facts_of(head):
+                if len(fact) > 3:
+                    facts[(crate, fact)].append(place)
+            for pair in parameters(head):
+                pairs[(crate, *pair)].append(place)
+            shapes.append((name, *place[:2], shape(head, body)))
+    often(facts, lambda key, where: f"fact in {len(where)} functions: {key[1]}")
+    often(pairs, lambda key, where: f"{key[1]} with {key[2]} in {len(where)}: {', '.join(w[2] for w in where)}")
+    alike(shapes)
     for path in sorted(glob.glob(os.path.join(TOP, "crates/*/proofs/**/*.antt"), recursive=True)):
         with open(path) as file:
             report(8, os.path.relpath(path, TOP), 1, f"{len(file.readlines())} lines")
