@@ -104,3 +104,55 @@ fn main(rt: HostRuntime) -> anyhow::Result<()> {
     out.flush()?;
     Ok(())
 }
+
+#[cfg(test)]
+mod tests {
+    use cost::charge::{Charge, after_all};
+    use cost::fee::Fee;
+    use cost::few::Few;
+    use cost::kind::Kind;
+    use cost::sum::Sum;
+    use cost::tally::Tally;
+    use cost::worst::Worst;
+
+    // The two routes of the sample network from node 0 to node 3.
+    const BY_NODE_1: [Charge; 3] = [
+        Charge::Span { tariff: 2 },
+        Charge::Conversion { tariff: 1 },
+        Charge::Span { tariff: 3 },
+    ];
+
+    const BY_NODE_2: [Charge; 2] = [Charge::Span { tariff: 4 }, Charge::Span { tariff: 5 }];
+
+    // What the two routes cost.
+    fn both<K: Kind>(kind: &K) -> (K::Value, K::Value) {
+        let start = kind.start();
+        (
+            after_all(kind, start, &BY_NODE_1),
+            after_all(kind, start, &BY_NODE_2),
+        )
+    }
+
+    #[test]
+    fn two_routes(rt: HostRuntime) {
+        assert_eq!(rt; both(&Sum), (Fee::new(6), Fee::new(9)));
+        let few = (Tally::new(1, Fee::new(6)), Tally::new(0, Fee::new(9)));
+        assert_eq!(rt; both(&Few), few);
+        assert_eq!(rt; both(&Worst), (3, 5));
+        assert!(rt; Few.at_most(few.1, few.0), "no conversion is better");
+    }
+
+    #[test]
+    fn the_ends_of_values(rt: HostRuntime) {
+        assert_eq!(rt;
+            Sum.after_span(Fee::new(4_294_967_290), 9),
+            Fee::new(u32::MAX)
+        );
+        let last = Tally::new(65_535, Fee::new(u32::MAX));
+        assert_eq!(rt;
+            Few.after_conversion(Tally::new(65_534, Fee::new(7)), 0),
+            last
+        );
+        assert_eq!(rt; Tally::new(65_535, Fee::new(4)), last);
+    }
+}

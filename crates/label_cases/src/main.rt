@@ -93,3 +93,48 @@ fn main(rt: HostRuntime) -> anyhow::Result<()> {
     out.flush()?;
     Ok(())
 }
+
+#[cfg(test)]
+mod tests {
+    use fault::label::LabelFault;
+    use label::{Label, Reading};
+    use network::spacing::Spacing;
+    use std::test::Fail;
+
+    // 193.35 THz at 50 GHz.
+    #[test]
+    fn the_published_label(rt: HostRuntime) -> Result<(), Fail> {
+        let label = Label::write(2, 5)?;
+        assert_eq!(rt; label, Label { bits: 0x2400_0005 });
+        let told = Reading {
+            spacing: Spacing::Ghz50,
+            n: 5,
+            centre: 193_350_000,
+        };
+        assert_eq!(rt; label.read(), Ok(told));
+        Ok(())
+    }
+
+    #[test]
+    fn a_number_below_zero(rt: HostRuntime) -> Result<(), Fail> {
+        let label = Label::write(1, -1)?;
+        assert_eq!(rt; label, Label { bits: 0x2200_FFFF });
+        assert_eq!(rt; label.read()?.centre, 193_000_000);
+        Ok(())
+    }
+
+    // Whatever its other fields are, the first that is wrong is answered.
+    #[test]
+    fn the_first_wrong_field(rt: HostRuntime) {
+        for (bits, fault) in [
+            (0xDFFF_FFFF, LabelFault::Grid),
+            (0x3FFF_8000, LabelFault::Spacing),
+            (0x2201_8000, LabelFault::Identifier),
+            (0x2200_8000, LabelFault::Number),
+        ] {
+            assert_eq!(rt; Label { bits }.read(), Err(fault));
+        }
+        assert_eq!(rt; Label::write(0, 1001), Err(LabelFault::Spacing));
+        assert_eq!(rt; Label::write(4, 1001), Err(LabelFault::Number));
+    }
+}
