@@ -2,7 +2,7 @@
 """Writes the cases of crates/label_cases: its stdin and its stdout.
 
 A label is taken apart here as a text of 32 binary digits, and the centre is worked out in THz and
-GHz by exact decimals, from docs/labels.md alone.
+GHz by exact decimals, from docs/labels.md and docs/refusals.md alone.
 """
 import random
 from decimal import Decimal
@@ -15,7 +15,7 @@ WRONG = [-32768, -32767, -1002, -1001, 1001, 1002, 32767]
 
 
 def no(number):
-    return "NO %d 0 Label" % number
+    return "NO %d 0 label" % number
 
 
 def compose(code, n):
@@ -55,25 +55,28 @@ def writing(code, n):
     return hexadecimal(digits) + " " + reading(digits)
 
 
-# worked by hand: the published example (50 GHz, 193.35 THz is n 5), the rest of docs/labels.md
+# worked by hand: the published example (50 GHz, 193.35 THz is n 5), others of docs/labels.md, and some more
 BY_HAND = [
     ("WRITE 2 5", "24000005 2 5 193350000 24000005"),
     ("READ 24000005", "2 5 193350000 24000005"),
     ("WRITE 1 -1", "2200FFFF 1 -1 193000000 2200FFFF"),
     ("READ 2200FFFF", "1 -1 193000000 2200FFFF"),
     ("READ 24000003", "2 3 193250000 24000003"),
+    ("READ 26000003", "3 3 193175000 26000003"),
+    ("WRITE 1 -1000", "2200FC18 1 -1000 93100000 2200FC18"),
+    ("WRITE 4 1000", "280003E8 4 1000 205600000 280003E8"),
     ("READ 2200FC18", "1 -1000 93100000 2200FC18"),
     ("READ 280003E8", "4 1000 205600000 280003E8"),
-    ("READ 00000000", "NO 30 0 Label"),
-    ("READ 20000000", "NO 31 0 Label"),
-    ("READ 2A000000", "NO 31 0 Label"),
-    ("READ 22010000", "NO 32 0 Label"),
-    ("READ 23010000", "NO 32 0 Label"),
-    ("READ 220003E9", "NO 33 0 Label"),
-    ("READ 2200FC17", "NO 33 0 Label"),
-    ("WRITE 0 2000", "NO 31 0 Label"),
-    ("WRITE 5 0", "NO 31 0 Label"),
-    ("WRITE 4 1001", "NO 33 0 Label"),
+    ("READ 00000000", "NO 30 0 label"),
+    ("READ 20000000", "NO 31 0 label"),
+    ("READ 2A000000", "NO 31 0 label"),
+    ("READ 22010000", "NO 32 0 label"),
+    ("READ 23010000", "NO 32 0 label"),
+    ("READ 220003E9", "NO 33 0 label"),
+    ("READ 2200FC17", "NO 33 0 label"),
+    ("WRITE 0 2000", "NO 31 0 label"),
+    ("WRITE 5 0", "NO 31 0 label"),
+    ("WRITE 4 1001", "NO 33 0 label"),
 ]
 
 

@@ -3,7 +3,7 @@ use Rattle.std.proofs.Common.{◌≡◌, ◌<◌, true, List, [], ◌∷◌, sym
 use Rattle.std.proofs.Math.Bool.{or_self}
 use Rattle.network.specs.Tariffs.{absent}
 use Rattle.cost.specs.Laws.{Ops, Laws}
-use Rattle.cost.specs.Charges.{after, after_all, amount_of, Tariffed}
+use Rattle.cost.specs.Charges.{after, after_all, amount_of, AllTariffs}
 use Rattle.cost.specs.declared.charge.Charge.{Charge}
 use Rattle.cost.specs.declared.charge.Charge.TheVariants.{Span, Conversion}
 
@@ -20,10 +20,10 @@ module _ {V : Type 0} {o : Ops V} (laws : Laws o) where
   step_upward a (Span w) h = laws.upward.0 a w h
   step_upward a (Conversion w) h = laws.upward.1 a w h
 
-  pub run_monotone : (cs : List Charge) → Tariffed cs → (a b : V) → o.at_most a b ≡ true → o.at_most (after_all o a cs) (after_all o b cs) ≡ true
+  pub run_monotone : (cs : List Charge) → AllTariffs cs → (a b : V) → o.at_most a b ≡ true → o.at_most (after_all o a cs) (after_all o b cs) ≡ true
   run_monotone [] t a b e = e
   run_monotone (c ∷ cs) t a b e = run_monotone cs t.1 (after o a c) (after o b c) (step_monotone a b c t.0 e)
 
-  pub run_upward : (cs : List Charge) → Tariffed cs → (a : V) → o.at_most a (after_all o a cs) ≡ true
+  pub run_upward : (cs : List Charge) → AllTariffs cs → (a : V) → o.at_most a (after_all o a cs) ≡ true
   run_upward [] t a = reflexive a
   run_upward (c ∷ cs) t a = laws.transitive a (after o a c) (after_all o (after o a c) cs) (step_upward a c t.0) (run_upward cs t.1 (after o a c))

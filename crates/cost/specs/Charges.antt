@@ -19,8 +19,8 @@ amount_of (Span w) = w
 amount_of (Conversion w) = w
 
 -- every charge is a tariff
-abbrev pub Tariffed : List Charge → Type 0
-Tariffed cs = AllByRecursion (λ c. amount_of c < absent) cs
+abbrev pub AllTariffs : List Charge → Type 0
+AllTariffs cs = AllByRecursion (λ c. amount_of c < absent) cs
 
 -- after the same charges, whatever is at most v is at most r
 abbrev pub KeepsOrder : {V : Type 0} → Ops V → List Charge → V → V → Type 0

@@ -3,15 +3,15 @@ use Rattle.std.specs.Prelude.{ℕ, ◌+◌}
 use Rattle.std.proofs.Common.{arith}
 use Rattle.std.proofs.Math.Nat.{add-zero}
 use Rattle.std.proofs.lemmas.Bool.Decides.{nat_tests}
-use Rattle.cost.specs.Laws.{Laws, Monotone, Upward}
+use Rattle.cost.specs.Laws.{Laws, IsMonotone, IsUpward}
 use Rattle.cost.specs.Sums.{plus}
 use Rattle.cost.specs.Fews.{tally, few_at_most, few_ops}
 
 -- however many conversions a step counts
-monotone : (k : ℕ) → Monotone few_at_most (λ v w. tally (v.conversions + k) (plus v.sum w))
+monotone : (k : ℕ) → IsMonotone few_at_most (λ v w. tally (v.conversions + k) (plus v.sum w))
 monotone k a b w h e = grind (arith, nat_tests)
 
-upward : (k : ℕ) → Upward few_at_most (λ v w. tally (v.conversions + k) (plus v.sum w))
+upward : (k : ℕ) → IsUpward few_at_most (λ v w. tally (v.conversions + k) (plus v.sum w))
 upward k a w h = grind (arith, nat_tests)
 
 pub few_laws : Laws few_ops

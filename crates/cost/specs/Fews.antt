@@ -1,30 +1,28 @@
 -- FEW: conversions counted first, then the tariffs added up.
-use Rattle.std.specs.Prelude.{◌≡◌, ℕ, ◌+◌, min, Bool, cond, ◌&&◌, ◌||◌, List, ◌++◌, codes, decimal, ◌==◌, nat_le, nat_lt}
+use Rattle.std.specs.Prelude.{◌≡◌, ℕ, ◌+◌, min, Bool, if◌then◌else◌, ◌&&◌, ◌||◌, List, ◌++◌, codes, decimal, ◌==◌, nat_le, nat_lt}
 use Rattle.std.proofs.Common.{arith}
 use Rattle.std.proofs.Math.Nat.{min-le_right}
 use Rattle.std.proofs.lemmas.Bool.Decides.{nat_tests}
+use Rattle.cost.specs.Ends.{largest_sum, largest_count}
 use Rattle.cost.specs.Laws.{Ops}
-use Rattle.cost.specs.Sums.{largest, fee, plus, fee_text}
+use Rattle.cost.specs.Sums.{fee, plus, fee_text}
 use Rattle.cost.specs.declared.fee.Fee.{Fee}
 use Rattle.cost.specs.declared.tally.Tally.{Tally}
 
-abbrev pub most : ℕ
-most = 65535
-
 -- the sum beside a count: the largest where the count has stopped
-abbrev pub beside : ℕ → ℕ → ℕ
-beside n x = cond (nat_lt n most) x largest
+abbrev pub sum_beside : ℕ → ℕ → ℕ
+sum_beside n x = if nat_lt n largest_count then x else largest_sum
 
-pub stops : (n x : ℕ) → min n most ≡ most → min (beside n x) largest ≡ largest
-stops n x e = grind (arith, nat_tests)
+pub sum_beside_stops : (n x : ℕ) → min n largest_count ≡ largest_count → min (sum_beside n x) largest_sum ≡ largest_sum
+sum_beside_stops n x e = grind (arith, nat_tests)
 
 -- so many conversions and such a sum, both stopped together
 abbrev pub tally : ℕ → Fee → Tally
 tally n s = record {
-  conversions = min n most;
-  sum = fee (beside n s.amount);
-  counted = min-le_right n most;
-  stopped = stops n s.amount;
+  conversions = min n largest_count;
+  sum = fee (sum_beside n s.amount);
+  counted = min-le_right n largest_count;
+  stopped = sum_beside_stops n s.amount;
 }
 
 -- a tariff more

@@ -1,3 +1,4 @@
+pub mod Ends
 pub mod Laws
 pub mod Charges
 pub mod Sums

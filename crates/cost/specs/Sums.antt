@@ -1,15 +1,13 @@
--- SUM: the tariffs added up, stopping at the largest number of 32 bits.
+-- SUM: the tariffs added up, as far as the largest sum.
 use Rattle.std.specs.Prelude.{ℕ, ◌+◌, min, List, decimal, nat_le}
 use Rattle.std.proofs.Math.Nat.{min-le_right}
+use Rattle.cost.specs.Ends.{largest_sum}
 use Rattle.cost.specs.Laws.{Ops}
 use Rattle.cost.specs.declared.fee.Fee.{Fee}
 
-abbrev pub largest : ℕ
-largest = 4294967295
-
 -- an amount, or the largest where the amount is beyond it
 abbrev pub fee : ℕ → Fee
-fee n = record { amount = min n largest; fits = min-le_right n largest }
+fee n = record { amount = min n largest_sum; fits = min-le_right n largest_sum }
 
 abbrev pub plus : Fee → ℕ → Fee
 plus v w = fee (v.amount + w)

@@ -1,9 +1,9 @@
 ghost use Rattle.std.specs.Prelude.{◌≡◌, true};
-ghost use Rattle.cost.specs.Charges.{after, after_all, Tariffed, KeepsOrder};
+ghost use Rattle.cost.specs.Charges.{after, after_all, AllTariffs, KeepsOrder};
 
 use super::kind::Kind;
 
-// What one step costs: a span's tariff, or a converter's.
+// What is charged for one part of a path: a span's tariff, or a converter's.
 #[derive(Clone, Copy)]
 pub enum Charge {
     Span { tariff: u16 },
@@ -20,20 +20,21 @@ pub fn after<K: Kind>(kind: &K, value: K::Value, charge: Charge) -> K::Value
     }
 }
 
-// The value after all of these charges, from left to right.
+// The charges added, from left to right. `after_all` promises more of the same answer.
 fn added<K: Kind>(kind: &K, value: K::Value, charges: &[Charge]) -> K::Value
     ensures { result ≡ after_all K.Kind.ops value charges.now }
 {
     charges
         .iter()
-        .fold(value, |sum, charge| after(kind, sum, *charge))
+        .fold(value, |so_far, charge| after(kind, so_far, *charge))
 }
 
-// The value after all of these charges, from left to right. The laws of one step hold of all of them.
+// The value after all of these charges, from left to right. Where each is a tariff, the order is kept
+// and no value becomes less, as after one of them.
 pub fn after_all<K: Kind>(kind: &K, value: K::Value, charges: &[Charge]) -> K::Value
     ensures is { result ≡ after_all K.Kind.ops value charges.now }
-    ensures order { Tariffed charges.now → KeepsOrder K.Kind.ops charges.now value result }
-    ensures upward { Tariffed charges.now → K.Kind.ops.at_most value result ≡ true }
+    ensures order { AllTariffs charges.now → KeepsOrder K.Kind.ops charges.now value result }
+    ensures upward { AllTariffs charges.now → K.Kind.ops.at_most value result ≡ true }
 {
     added(kind, value, charges)
 }

@@ -1,12 +1,14 @@
 ghost use Rattle.std.specs.Prelude.{◌≤◌};
+ghost use Rattle.cost.specs.Ends.{largest_sum};
 
 use std::fmt;
 
-// A value of SUM. Its fact is true of every number of 32 bits: by it no larger one is a Fee.
+// A value of SUM. In a definition an amount could be any natural number; by the ghost field it is one
+// of 32 bits.
 #[derive(Clone, Copy, Debug, PartialEq, Eq, PartialOrd, Ord)]
 pub struct Fee {
     pub amount: u32,
-    ghost fits: { amount ≤ 4294967295 },
+    ghost fits: { amount ≤ largest_sum },
 }
 
 impl Fee {

@@ -4,8 +4,8 @@ ghost use Rattle.cost.specs.Laws.{Ops, Laws};
 use std::fmt::Display;
 
 // A kind of cost. Its values are built from the start by span steps and conversion steps, each at
-// a tariff, compared by "at most", and printed as they are displayed. Whoever makes a kind shows
-// the four laws, and code that is written for every kind may use them.
+// a tariff, compared by "at most", and displayed as `text` says. Whoever makes a kind shows the four
+// laws, and code that is written for every kind may use them.
 pub trait Kind {
     type Value: Copy + Display;
 

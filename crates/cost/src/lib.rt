@@ -1,4 +1,4 @@
-//! Kinds of cost: how a semilightpath's cost is built, step by step, and compared.
+//! Kinds of cost: how a path's cost is built, from left to right, and compared.
 #![tactic(auto)]
 
 pub mod charge;

@@ -1,4 +1,5 @@
 ghost use Rattle.std.specs.Prelude.{◌≡◌, ◌≤◌};
+ghost use Rattle.cost.specs.Ends.{largest_sum, largest_count};
 
 use super::fee::Fee;
 use std::fmt;
@@ -9,8 +10,8 @@ use std::fmt;
 pub struct Tally {
     pub conversions: u16,
     pub sum: Fee,
-    ghost counted: { conversions ≤ 65535 },
-    ghost stopped: { conversions ≡ 65535 → sum.amount ≡ 4294967295 },
+    ghost counted: { conversions ≤ largest_count },
+    ghost stopped: { conversions ≡ largest_count → sum.amount ≡ largest_sum },
 }
 
 impl Tally {

@@ -13,9 +13,9 @@ field at width = record { at = at; width = width }
 abbrev pub part : Field → ℕ → ℕ
 part f bits = bits / 2 ^ f.at % 2 ^ f.width
 
--- a number put into its field
-abbrev pub placed : Field → ℕ → ℕ
-placed f x = x * 2 ^ f.at
+-- a number put into its field, which has room for its lowest bits
+abbrev pub field_bits : Field → ℕ → ℕ
+field_bits f x = x % 2 ^ f.width * 2 ^ f.at
 
 abbrev pub grid : Field
 grid = field 29 3

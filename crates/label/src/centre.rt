@@ -4,8 +4,8 @@ ghost use Rattle.label.specs.Labels.{spacing_of, centre_of};
 
 use network::spacing::Spacing;
 
-// The centre of number 0: 193.1 THz.
-const MIDDLE: i32 = 193_100_000;
+// The centre of number 0, from which the grid is counted: 193.1 THz.
+const ANCHOR: i32 = 193_100_000;
 
 // A spacing in MHz.
 fn spacing_of(spacing: Spacing) -> i32
@@ -24,5 +24,5 @@ pub fn centre_of(spacing: Spacing, n: i16) -> u32
     requires { in_range n ≡ true }
     ensures { result ≡ unsigned_abs (centre_of spacing n) }
 {
-    (MIDDLE + i32::from(n) * spacing_of(spacing)).unsigned_abs()
+    (ANCHOR + i32::from(n) * spacing_of(spacing)).unsigned_abs()
 }

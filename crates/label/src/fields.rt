@@ -1,13 +1,14 @@
-ghost use Rattle.std.specs.Prelude.{◌≡◌, ◌<◌, ◌%◌, ◌^◌};
-ghost use Rattle.label.specs.Fields.{field, part, placed};
+ghost use Rattle.std.specs.Prelude.{◌≡◌, ◌+◌, ◌<◌, ◌≤◌, ◌%◌, ◌^◌};
+ghost use Rattle.label.specs.Fields.{field, field_bits, part};
 
 // A field of a label: how far its lowest bit stands from the label's, and how many bits it has.
 #[derive(Clone, Copy)]
 pub struct Field {
     at: u32,
     width: u32,
-    ghost inside: { at < 32 },
+    ghost placed: { at < 32 },
     ghost narrow: { width < 32 },
+    ghost inside: { width + at ≤ 32 },
 }
 
 pub const GRID: Field = Field { at: 29, width: 3 };
@@ -19,18 +20,25 @@ pub const IDENTIFIER: Field = Field { at: 16, width: 9 };
 pub const NUMBER: Field = Field { at: 0, width: 16 };
 
 impl Field {
-    // What the field of a label holds.
+    // The lowest bits of a number, as many as the field has.
     #[tactic(auto, using(std::proofs::lemmas::Grind::common_steps, std::proofs::lemmas::Nat::and_mask))]
+    fn lowest(self, x: u32) -> u32
+        ensures { result ≡ x % 2 ^ self.width }
+    {
+        x & (1 << self.width) - 1
+    }
+
+    // What the field of a label holds.
     pub fn part(self, bits: u32) -> u32
         ensures { result ≡ part (field self.at self.width) bits }
     {
-        bits >> self.at & (1 << self.width) - 1
+        self.lowest(bits >> self.at)
     }
 
-    // A number put into the field.
-    pub fn placed(self, x: u32) -> u32
-        ensures { result ≡ placed (field self.at self.width) x % 2 ^ 32 }
+    // A number put into the field: as many of its lowest bits as the field has.
+    pub fn bits(self, x: u32) -> u32
+        ensures { result ≡ field_bits (field self.at self.width) x }
     {
-        x << self.at
+        self.lowest(x) << self.at
     }
 }

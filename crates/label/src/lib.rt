@@ -5,9 +5,9 @@ ghost use Rattle.std.specs.Prelude.{◌≡◌, Ok, Err, if◌then◌else◌};
 ghost use Rattle.fault.specs.declared.label.LabelFault.TheVariants as fault;
 ghost use Rattle.network.specs.Limits.{in_range};
 ghost use Rattle.network.specs.Spacings.{coded, spacing_by};
-ghost use Rattle.label.specs.Labels.{reading, sayable, sound, writing, Centred, Exactly, ReadsBack, WritesBack};
+ghost use Rattle.label.specs.Labels.{is_sound, is_writable, read, write, IsCentred, ReadsBack, RefusesExactly, WritesBack};
 
-use bits::{code, joined, number};
+use bits::{code_in, label_bits, number_in};
 use centre::centre_of;
 use fault::label::LabelFault;
 use fields::{GRID, IDENTIFIER};
@@ -32,15 +32,15 @@ pub struct Reading {
     pub centre: u32,
 }
 
-// The spacing that is told by its code.
-fn told_spacing(code: u8) -> Result<Spacing, LabelFault>
+// The spacing that has this code, or the fault where none has.
+fn spacing_by(code: u8) -> Result<Spacing, LabelFault>
     ensures { result ≡ if coded code then Ok (spacing_by code) else Err fault.Spacing }
 {
     Spacing::try_from(code).map_err(|_| LabelFault::Spacing)
 }
 
-// The number n that is told, from -1000 to 1000.
-fn told_number(n: i16) -> Result<i16, LabelFault>
+// The number n where it is -1000 to 1000, or the fault.
+fn number_by(n: i16) -> Result<i16, LabelFault>
     ensures { result ≡ if in_range n then Ok n else Err fault.Number }
 {
     if in_range(n) {
@@ -50,51 +50,51 @@ fn told_number(n: i16) -> Result<i16, LabelFault>
     }
 }
 
-// The label that is written, or the first field that is wrong, from the high end.
-fn written(code: u8, n: i16) -> Result<Label, LabelFault>
-    ensures { result ≡ writing code n }
+// A label of these fields, or the fault. `write` promises more of the same answer.
+fn label_of(code: u8, n: i16) -> Result<Label, LabelFault>
+    ensures { result ≡ write code n }
 {
-    let spacing = told_spacing(code)?;
-    let n = told_number(n)?;
-    let bits = joined(spacing, n);
+    let spacing = spacing_by(code)?;
+    let n = number_by(n)?;
+    let bits = label_bits(spacing, n);
     Ok(Label { bits })
 }
 
-// What is read, or the first field that is wrong, from the high end.
-fn told(bits: u32) -> Result<Reading, LabelFault>
-    ensures is { result ≡ reading bits }
-    ensures centred { Centred result }
+// What these bits tell, or the fault. `read` promises more of the same answer.
+fn reading_of(bits: u32) -> Result<Reading, LabelFault>
+    ensures is { result ≡ read bits }
+    ensures centred { IsCentred result }
 {
     if GRID.part(bits) != 1 {
         return Err(LabelFault::Grid);
     }
-    let spacing = told_spacing(code(bits))?;
+    let spacing = spacing_by(code_in(bits))?;
     if IDENTIFIER.part(bits) != 0 {
         return Err(LabelFault::Identifier);
     }
-    let n = told_number(number(bits))?;
+    let n = number_by(number_in(bits))?;
     let centre = centre_of(spacing, n);
     Ok(Reading { spacing, n, centre })
 }
 
 impl Label {
-    // The label of a spacing code and a number n. Any number is taken for a code, since this is the
-    // call that refuses the wrong ones.
+    // The label of a spacing code and a number n, or the first of the two that is wrong. Any number
+    // is taken for a code, since this is the call that refuses the wrong ones.
     pub fn write(code: u8, n: i16) -> Result<Label, LabelFault>
-        ensures is { result ≡ writing code n }
+        ensures is { result ≡ write code n }
         ensures back { ReadsBack code n result }
-        ensures exact { Exactly (sayable code n) result }
+        ensures exact { RefusesExactly (is_writable code n) result }
     {
-        written(code, n)
+        label_of(code, n)
     }
 
     // What a label tells, or the first of its fields that is wrong, from the high end.
     pub fn read(self) -> Result<Reading, LabelFault>
-        ensures is { result ≡ reading self.bits }
+        ensures is { result ≡ read self.bits }
         ensures back { WritesBack self result }
-        ensures exact { Exactly (sound self.bits) result }
-        ensures centred { Centred result }
+        ensures exact { RefusesExactly (is_sound self.bits) result }
+        ensures centred { IsCentred result }
     {
-        told(self.bits)
+        reading_of(self.bits)
     }
 }

@@ -39,7 +39,7 @@ impl FromStr for Request {
 fn refused<W: Write>(out: &mut W, fault: LabelFault) -> io::Result<()> {
     let report = fault.report();
     let layer = report.layer;
-    writeln!(out, "NO {report} {layer:?}")
+    writeln!(out, "NO {report} {layer}")
 }
 
 // What a label tells, and the label that this is written back as.
