@@ -13,6 +13,7 @@ use Rattle.cost.specs.declared.tally.Tally.{Tally}
 abbrev pub sum_beside : ℕ → ℕ → ℕ
 sum_beside n x = if nat_lt n largest_count then x else largest_sum
 
+-- where the count has stopped, so has the sum
 pub sum_beside_stops : (n x : ℕ) → min n largest_count ≡ largest_count → min (sum_beside n x) largest_sum ≡ largest_sum
 sum_beside_stops n x e = grind (arith, nat_tests)
 

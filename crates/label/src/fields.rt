@@ -36,6 +36,7 @@ impl Field {
     }
 
     // A number put into the field: as many of its lowest bits as the field has.
+    #[tactic(auto, using(crate::proofs::Joined::shifted_whole))]
     pub fn bits(self, x: u32) -> u32
         ensures { result ≡ field_bits (field self.at self.width) x }
     {
