@@ -9,7 +9,7 @@ use Rattle.cost.specs.declared.charge.Charge.TheVariants.{Span, Conversion}
 
 module _ {V : Type 0} {o : Ops V} (laws : Laws o) where
   -- every value is at most itself
-  reflexive : (a : V) → o.at_most a a ≡ true
+  pub reflexive : (a : V) → o.at_most a a ≡ true
   reflexive a = sym (or_self (o.at_most a a)) ∙ laws.total a a
 
   step_monotone : (a b : V) (c : Charge) → amount_of c < absent → o.at_most a b ≡ true → o.at_most (after o a c) (after o b c) ≡ true

@@ -12,7 +12,7 @@ use Rattle.fault.specs.declared.plan.FileFault.TheVariants.{Size, Version, Value
 use Rattle.fault.specs.declared.plan.LoadFault.{LoadFault}
 use Rattle.fault.specs.declared.plan.LoadFault.TheVariants as load
 use Rattle.fault.specs.declared.book.BookFault.{BookFault}
-use Rattle.fault.specs.declared.book.BookFault.TheVariants.{LoadTable, BookTable, NoSpan}
+use Rattle.fault.specs.declared.book.BookFault.TheVariants.{LoadTable, BookTable, NoNode, NoSpan, WorkTable, NoPath}
 use Rattle.fault.specs.declared.label.LabelFault.{LabelFault}
 use Rattle.fault.specs.declared.label.LabelFault.TheVariants.{Grid, Spacing, Identifier, Number}
 use Rattle.fault.specs.declared.ticket.WordFault.{WordFault}
@@ -43,7 +43,10 @@ of_file (Section f) = of_section f
 abbrev pub of_book : BookFault → Report
 of_book LoadTable = report 10 0 layer.Book
 of_book BookTable = report 11 0 layer.Book
+of_book NoNode = report 24 0 layer.Book
 of_book NoSpan = report 26 0 layer.Book
+of_book WorkTable = report 27 0 layer.Book
+of_book NoPath = report 29 0 layer.Book
 
 abbrev pub of_load : LoadFault → Report
 of_load (load.File f) = of_file f

@@ -9,8 +9,14 @@ pub enum BookFault {
     LoadTable,
     // a table of the book is too short
     BookTable,
+    // there is no such node
+    NoNode,
     // there is no such span
     NoSpan,
+    // the table that a search works on is too short
+    WorkTable,
+    // no semilightpath leads there over what can be used
+    NoPath,
 }
 
 impl Fault for BookFault {
@@ -20,7 +26,10 @@ impl Fault for BookFault {
         let number = match *self {
             BookFault::LoadTable => 10,
             BookFault::BookTable => 11,
+            BookFault::NoNode => 24,
             BookFault::NoSpan => 26,
+            BookFault::WorkTable => 27,
+            BookFault::NoPath => 29,
         };
         Report::new(number, 0, Layer::Book)
     }

@@ -1,2 +1,6 @@
+pub mod Charged
 pub mod Entries
 pub mod Filled
+pub mod Leaving
+pub mod Rowed
+pub mod Ended

@@ -26,9 +26,11 @@ abbrev pub span_at : List Span → ℕ → Span
 span_at ends e = slice_index_or ends e no_span
 
 -- a span joins two different nodes of the network
+abbrev pub IsJoined : Counts → Span → Type 0
+IsJoined n s = (s.tail < n.nodes) × (s.head < n.nodes) × (s.tail ≢ s.head)
+
 abbrev pub Joined : Counts → List Span → Type 0
-Joined n ends =
-    (e : ℕ) → e < n.spans → ((span_at ends e).tail < n.nodes) × ((span_at ends e).head < n.nodes) × ((span_at ends e).tail ≢ (span_at ends e).head)
+Joined n ends = (e : ℕ) → e < n.spans → IsJoined n (span_at ends e)
 
 -- the tables have an entry for all that is asked of them
 abbrev pub Roomy : Counts → List ℕ → List ℕ → Type 0

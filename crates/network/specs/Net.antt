@@ -7,6 +7,7 @@ use Rattle.network.specs.declared.spacing.Spacing.{Spacing}
 use Rattle.network.specs.Extents.{given}
 use Rattle.network.specs.Tariffs.{absent, tariff, span_entries, span_entry, converter_entries, converter_entry}
 use Rattle.network.specs.Limits.{number_at, span_at}
+use Rattle.network.specs.Indexes.{leaving_by}
 
 -- each list is just as long as the counts say
 pub record Net : Type 0 where
@@ -38,6 +39,10 @@ number_of w c = given (nat_lt c w.counts.channels) (number_at w.numbers c)
 -- the ends of a span
 abbrev pub span_of : Net → ℕ → Option Span
 span_of w e = given (nat_lt e w.counts.spans) (span_at w.ends e)
+
+-- the spans that leave a node, by rising number
+abbrev pub leaving : Net → ℕ → List ℕ
+leaving w node = leaving_by w.counts.spans w.ends node
 
 -- the tariff of a channel on a span, where the span carries it
 abbrev pub tariff_of : Net → ℕ → ℕ → Option ℕ

@@ -1,6 +1,6 @@
 ghost use Rattle.std.specs.Prelude.{◌≡◌, ◌<◌, ◌≤◌, ◌&&◌, nat_lt, IfSome};
 ghost use Rattle.network.specs.Extents.{Counted, given};
-ghost use Rattle.network.specs.Tariffs.{span_entries, span_entry, converter_entries, converter_entry};
+ghost use Rattle.network.specs.Tariffs.{span_entries, span_entry, converter_entries, converter_entry, arrival_entries, arrival_entry};
 
 use super::counts::Counts;
 
@@ -68,5 +68,30 @@ impl Extent {
             return None;
         }
         Some((node * counts.channels + from) * counts.channels + to)
+    }
+
+    // How many entries a table has for all arrivals: at all nodes, on all channels.
+    pub fn arrival_entries(self) -> usize
+        ensures is { result ≡ arrival_entries self.counts }
+        ensures few { result ≤ 1024 }
+    {
+        let Counts {
+            nodes,
+            channels,
+            ..
+        } = self.counts;
+        nodes * channels
+    }
+
+    // Where the arrival at a node on a channel stands in such a table.
+    pub fn arrival_entry(self, node: usize, channel: usize) -> Option<usize>
+        ensures is { result ≡ given (nat_lt node self.counts.nodes && nat_lt channel self.counts.channels) (arrival_entry self.counts node channel) }
+        ensures within { IfSome result (λ i. i < arrival_entries self.counts) }
+    {
+        let counts = self.counts;
+        if node >= counts.nodes || channel >= counts.channels {
+            return None;
+        }
+        Some(node * counts.channels + channel)
     }
 }

@@ -2,9 +2,11 @@
 #![tactic(auto)]
 
 ghost use Rattle.network.specs.Limits.{Ranged, Rising, Joined, Roomy, Few, Proper};
+ghost use Rattle.network.specs.Indexes.{Indexed};
 
 pub mod counts;
 pub mod extent;
+mod index;
 pub mod number;
 mod reads;
 pub mod spacing;
@@ -13,6 +15,7 @@ pub mod step;
 pub mod table;
 
 use extent::Extent;
+use index::Index;
 use spacing::Spacing;
 use span::Span;
 
@@ -22,18 +25,21 @@ pub const ABSENT: u16 = 65535;
 
 // A network over two tables of tariffs that the caller lends: one entry for each channel of each
 // span, and one for each node and pair of channels. 65,535 stands for none. A network is `Copy` and
-// allocates nothing, so numbers and ends stand in arrays that the counts cut.
+// allocates nothing, so numbers and ends stand in arrays that the counts cut, and so does the index
+// of the spans by tail.
 #[derive(Clone, Copy)]
 pub struct Network<'s, 'c> {
     extent: Extent,
     spacing: Spacing,
     numbers: [i16; 16],
     ends: [Span; 256],
+    index: Index,
     tariffs: &'s [u16],
     converters: &'c [u16],
     ghost ranged: { Ranged extent.counts numbers },
     ghost rising: { Rising extent.counts numbers },
     ghost joined: { Joined extent.counts ends },
+    ghost indexed: { Indexed extent.counts ends index.order index.starts },
     ghost roomy: { Roomy extent.counts tariffs.now converters.now },
     ghost few: { Few extent.counts converters.now },
     ghost proper: { Proper extent.counts converters.now },

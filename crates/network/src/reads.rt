@@ -1,10 +1,11 @@
-ghost use Rattle.std.specs.Prelude.{◌≡◌};
-ghost use Rattle.network.specs.Limits.{Ranged, Rising, Joined, Roomy, Few, Proper};
+ghost use Rattle.std.specs.Prelude.{◌≡◌, IfSome};
+ghost use Rattle.network.specs.Limits.{Ranged, Rising, IsJoined, Joined, Roomy, Few, Proper};
 ghost use Rattle.network.specs.Tariffs.{tariff};
-ghost use Rattle.network.specs.Net.{net, value, number_of, span_of, tariff_of, converter_of};
+ghost use Rattle.network.specs.Net.{net, value, number_of, span_of, leaving, tariff_of, converter_of};
 
 use super::counts::Counts;
 use super::extent::Extent;
+use super::index::Index;
 use super::spacing::Spacing;
 use super::span::Span;
 use super::{ABSENT, Network};
@@ -28,11 +29,13 @@ impl<'s, 'c> Network<'s, 'c> {
         ensures is { net result ≡ value extent.counts spacing numbers ends tariffs.now converters.now }
         ensures tables { (result.tariffs.now ≡ tariffs.now) × (result.converters.now ≡ converters.now) }
     {
+        let index = Index::new(extent, &ends);
         Network {
             extent,
             spacing,
             numbers,
             ends,
+            index,
             tariffs,
             converters,
         }
@@ -68,9 +71,23 @@ impl<'s, 'c> Network<'s, 'c> {
 
     // The ends of a span.
     pub fn span(&self, span: usize) -> Option<Span>
-        ensures { result ≡ span_of (net self.now) span }
+        ensures is { result ≡ span_of (net self.now) span }
+        ensures joined { IfSome result (λ s. IsJoined (net self.now).counts s) }
     {
         self.ends[..self.counts().spans].get(span).copied()
+    }
+
+    // The spans that leave a node, by rising number.
+    #[tactic(auto, using(crate::proofs::Leaving::row_is, crate::proofs::Leaving::no_row))]
+    pub fn leaving(&self, node: usize) -> &[u16]
+        ensures { result.now ≡ leaving (net self.now) node }
+    {
+        if node >= self.counts().nodes {
+            return &[];
+        }
+        let start = usize::from(self.index.starts[node]);
+        let end = usize::from(self.index.starts[node + 1]);
+        &self.index.order[start..end]
     }
 
     // The tariff of a channel on a span, where the span carries it.

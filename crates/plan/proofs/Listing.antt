@@ -62,7 +62,7 @@ listed_by n f (suc r) e =
 some_is : (v t : ℕ) → tariff v ≡ Some t → (v ≡ absent → ⊥) × (v ≡ t)
 some_is v t e = (grind (arith, nat_tests), grind (arith, nat_tests))
 
-tariff_some : (v : ℕ) → (v ≡ absent → ⊥) → tariff v ≡ Some v
+tariff_some : (v : ℕ) → v < absent → tariff v ≡ Some v
 tariff_some v h = grind (arith, nat_tests)
 
 cond_some : (b : Bool) (x : Option ℕ) (t : ℕ) → cond b x None ≡ Some t → b ≡ true

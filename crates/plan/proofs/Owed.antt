@@ -48,7 +48,7 @@ pub record IsProper (n : Counts) (last : Option Converter) (c : Converter) : Typ
   pub from : c.from < n.channels
   pub to : c.to < n.channels
   pub changes : c.from ≡ c.to → ⊥
-  pub charged : c.tariff ≡ absent → ⊥
+  pub charged : c.tariff < absent
   pub rises : after before last c ≡ true
 
 -- an entry tells its node and its channels

@@ -52,7 +52,7 @@ sound_converter n last c =
     nat_lt c.node n.nodes
     && (nat_lt c.from n.channels
     && (nat_lt c.to n.channels
-    && (not (c.from == c.to) && (not (c.tariff == absent) && after before last c))))
+    && (not (c.from == c.to) && (nat_lt c.tariff absent && after before last c))))
 
 -- the judgement of record i of a section that begins at a place, where records have a size
 abbrev pub record_row : {R : Type 0} → ℕ → (Option R → R → Bool) → (ℕ → RecordFault) → ℕ → (ℕ → R) → ℕ → Judgement RecordFault

@@ -3,12 +3,13 @@ use Rattle.std.proofs.Common.{◌≡◌, ℕ, ◌<◌, ltb, List, [], get_or, No
 use Rattle.std.proofs.lemmas.Option.{none-some}
 use Rattle.std.proofs.lemmas.Bool.{cases_lt, lt-ltb, le-ltb, cond-true, cond-false, false≢true}
 use Rattle.network.specs.declared.counts.Counts.{Counts}
+use Rattle.network.specs.Steps.{on, distinct}
 use Rattle.network.specs.Tariffs.{span_entries}
 use Rattle.network.proofs.Entries.{span_entry_lem}
 use Rattle.records.specs.declared.circuit.Circuit.{Circuit}
 use Rattle.records.specs.declared.circuit.Circuit.TheVariants as circuit
 use Rattle.records.specs.Chains.{Channel, standing, holder, along, circuit_count, circuit_at, route_of, path_of}
-use Rattle.records.specs.Sound.{on, distinct, names, Sound}
+use Rattle.records.specs.Sound.{names, Sound}
 
 no_route : (circuits : List Circuit) → ((c : ℕ) → c < circuit_count → circuit_at circuits c ≡ circuit.Free) → (c : ℕ) → route_of circuits c ≡ None
 no_route circuits free c =

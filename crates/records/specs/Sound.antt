@@ -1,27 +1,11 @@
 -- How the records of the channels and those of the circuits fit together.
-use Rattle.std.specs.Prelude.{◌≡◌, ℕ, ◌<◌, ◌≤◌, Bool, true, false, not, ◌&&◌, ◌||◌, List, [], ◌∷◌, length, Some, None, Option, ◌==◌}
+use Rattle.std.specs.Prelude.{◌≡◌, ℕ, ◌≤◌, Bool, true, false, List, length, Some, None, Option, ◌==◌}
 use Rattle.network.specs.declared.counts.Counts.{Counts}
 use Rattle.network.specs.declared.step.Step.{Step}
+use Rattle.network.specs.Steps.{Within, on, distinct}
 use Rattle.records.specs.declared.circuit.Circuit.{Circuit}
 use Rattle.records.specs.declared.circuit.Route.{Route}
 use Rattle.records.specs.Chains.{Channel, holder, channel_at, chain, after, route_of, path_of}
-
--- a step takes a channel of the network
-abbrev pub Within : Counts → Step → Type 0
-Within n s = (s.span < n.spans) × (s.channel < n.channels)
-
-abbrev pub same : Step → Step → Bool
-same s t = s.span == t.span && s.channel == t.channel
-
--- a step lies on a path
-abbrev pub on : Step → List Step → Bool
-on s [] = false
-on s (t ∷ p) = same s t || on s p
-
--- no step lies on a path twice
-abbrev pub distinct : List Step → Bool
-distinct [] = true
-distinct (s ∷ p) = not (on s p) && distinct p
 
 -- a record names circuit c, by its holder
 abbrev pub names : ℕ → Option ℕ → Bool
