@@ -1,0 +1,4 @@
+pub mod Scenes
+pub mod Paths
+pub mod Costs
+pub mod Cheapest
