@@ -1,0 +1,96 @@
+-- The start of a search, and its end: every semilightpath has an open arrival that costs no more.
+use Rattle.std.proofs.Common.{◌≡◌, ℕ, ◌<◌, ◌≤◌, true, false, List, [], ◌∷◌, length, Some, None, refl, sym, ap, ◌∙◌, subst, ⊎_elim, arith}
+use Rattle.std.proofs.lemmas.Option.{none-some}
+use Rattle.std.proofs.lemmas.Bool.{true≢false, cases_Bool}
+use Rattle.std.specs.Option.{IfSome}
+use Rattle.std.proofs.lemmas.List.Sums.{fold-append}
+use Rattle.network.specs.Tariffs.{absent, arrival_entries}
+use Rattle.network.specs.declared.step.Step.{Step}
+use Rattle.cost.specs.Laws.{Ops, Laws}
+use Rattle.cost.specs.Charges.{after, after_all}
+use Rattle.semilightpath.specs.declared.point.Point.{Point}
+use Rattle.semilightpath.specs.Scenes.{Scene}
+use Rattle.semilightpath.specs.Paths.{begin, Goes, end_of, IsSemilightpath}
+use Rattle.semilightpath.specs.Costs.{step_charges, charges, after_step, cost}
+use Rattle.semilightpath.specs.Cheapest.{IsCheapest, HasNone}
+use Rattle.semilightpath.proofs.Prices.{charges_upward, step_monotone}
+use Rattle.search.specs.declared.arrival.Arrival.{Arrival}
+use Rattle.search.specs.Labels.{Labels, cost_of, IsInside, is_settled, back, trail, arrival_of, point_of}
+use Rattle.search.specs.Invariants.{KnownAtMost, Covers, Ready, Moved, IsLeast, NoneOpen, NotYet, Searching}
+use Rattle.search.proofs.Trails.{trail_is, leads_shown, path_short, distinct_apart}
+use Rattle.search.proofs.Proposals.{known_more}
+
+module _ {V : Type 0} {o : Ops V} (laws : Laws o) (g : Scene) (s : ℕ) (ls : Labels V) (unknown : (x : Arrival) → ls x ≡ None) where
+  no_cost : (x : Arrival) (v : V) → cost_of (ls x) ≡ Some v → ⊥
+  no_cost x v h = none-some _ (sym (ap cost_of (unknown x)) ∙ h)
+
+  pub ready_first : Ready o g s ls (begin s) o.start
+  ready_first = record {
+    sound = record {
+      reach = λ x v h. absurd (no_cost x v h);
+      order = λ x y v w dx dy hx hy. absurd (no_cost x v hx);
+    };
+    route = record { path = []; goes = tt; ends = refl; costs = refl; leads = refl; over = tt; once = refl };
+    top = λ x w d h. absurd (no_cost x w h);
+  }
+
+  pub searching_first : (ms : Labels V) → Moved o ls ms → Ready o g s ms (begin s) o.start → Covers o g ms (begin s) o.start → Searching o g s ms
+  searching_first ms moved ready covers = record {
+    sound = ready.sound;
+    first = covers;
+    closed = λ x v d h. absurd (true≢false (sym d ∙ moved.flags x ∙ ap is_settled (unknown x)));
+  }
+
+  pub not_yet_first : (t : ℕ) (ms : Labels V) → Moved o ls ms → NotYet t ms
+  not_yet_first t ms moved x e = moved.flags x ∙ ap is_settled (unknown x)
+
+module _ {V : Type 0} {o : Ops V} (laws : Laws o) (g : Scene) (charged : (e : Step) → IfSome (g.fare e) (λ w. w < absent)) (s t : ℕ) (ls : Labels V)
+    (searching : Searching o g s ls) (yet : NotYet t ls) where
+  -- some open arrival is known at no more than w
+  abbrev OpenAtMost : V → Type 0
+  OpenAtMost w = (y : Arrival) × (is_settled (ls y) ≡ false) × KnownAtMost o ls y w
+
+  -- a path that goes on to t from an arrival that is known at no more
+  follow : (p : List Step) (x : Arrival) (v : V) → KnownAtMost o ls x v → Goes g (point_of x) p → (end_of g.net (point_of x) p).node ≡ t → OpenAtMost (after_all o v (charges g (Some x.channel) p))
+  follow [] x v h goes e = (x, yet x e, h)
+  follow (d ∷ p) x v h goes e =
+      ⊎_elim
+      (λ q.
+      let k = searching.closed x h.0 q h.1 d goes.0 in
+      let m = step_monotone laws g charged (Some x.channel) h.0 v d h.2 in
+      subst OpenAtMost (sym (fold-append (after o) v (step_charges g (Some x.channel) d) (charges g (Some d.channel) p)))
+      (follow p (arrival_of g.net d) (after_step o g (Some x.channel) v d) (known_more laws ls (arrival_of g.net d) _ _ k m) goes.1 e))
+      (λ q. (x, q, known_more laws ls x v _ h (charges_upward laws g charged (Some x.channel) v (d ∷ p))))
+      (cases_Bool (is_settled (ls x)))
+
+  covered : (q : List Step) → IsSemilightpath g s t q → OpenAtMost (cost o g q)
+  covered [] h = absurd (omega (arith, h.0))
+  covered (e ∷ q) h =
+      subst OpenAtMost (sym (fold-append (after o) o.start (step_charges g None e) (charges g (Some e.channel) q)))
+      (follow q (arrival_of g.net e) (after_step o g None o.start e) (searching.first e h.1.0) h.1.1 h.2)
+
+  pub none_is : NoneOpen ls → HasNone g s t
+  none_is none q h = let k = covered q h in none k.0 k.2.0 k.1 k.2.1
+
+  pub least_is : (x : Arrival) (v : V) → IsLeast o ls x v → (q : List Step) → IsSemilightpath g s t q → o.at_most v (cost o g q) ≡ true
+  least_is x v least q h =
+      let k = covered q h in
+      laws.transitive v k.2.0 (cost o g q) (least.least k.0 k.2.0 k.1 k.2.1) k.2.2
+
+  -- the path that the labels lead along to the least open arrival, where that is at t; it is read off them, or off others that show as much
+  pub found_is : (ms : Labels V) → ((x : Arrival) (r : Step × Point) → back (ls x) ≡ Some r → IsInside g.net.counts x) → ((x : Arrival) (r : Step × Point) → back (ls x) ≡ Some r → back (ms x) ≡ Some r)
+      → (x : Arrival) (v : V) → IsLeast o ls x v → x.node ≡ t → IsCheapest o g s t (trail ms (arrival_entries g.net.counts) (point_of x)) v
+  found_is ms inside shows x v least e =
+      let r = searching.sound.reach x v least.known in
+      let short = path_short g.net ls (begin s) r.path (point_of x) inside r.leads r.once in
+      let is = trail_is g.net ms s r.path (point_of x) (arrival_entries g.net.counts) (leads_shown g.net ls ms (begin s) r.path (point_of x) shows r.leads) short in
+      subst (λ (p : List Step). IsCheapest o g s t p v) (sym is) (record {
+        path = (some r.path r.ends, r.goes, ap (λ (a : Point). a.node) r.ends ∙ e);
+        once = distinct_apart g.net r.path r.once;
+        priced = r.costs;
+        least = least_is x v least;
+      })
+    where
+      some : (p : List Step) → end_of g.net (begin s) p ≡ point_of x → 1 ≤ length p
+      some [] q = absurd (none-some _ (ap (λ (a : Point). a.entered) q))
+      some (d ∷ p) q = omega arith

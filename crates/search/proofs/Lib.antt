@@ -1,0 +1,13 @@
+pub mod Rows
+pub mod Routes
+pub mod Proposals
+pub mod Settles
+pub mod Ends
+pub mod Counting
+pub mod Trails
+pub mod Counts
+pub mod Frontiers
+pub mod Tries
+pub mod Left
+pub mod Runs
+pub mod Backs

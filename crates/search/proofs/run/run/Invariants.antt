@@ -1,0 +1,16 @@
+use Rattle.std.proofs.Common.{ℕ}
+use Rattle.network.specs.Net.{net}
+use Rattle.semilightpath.specs.Scenes.{scene}
+use Rattle.search.specs.Works.{labels_of, KeepsRest}
+use Rattle.search.specs.Invariants.{Searching, NotYet}
+use Rattle.search.proofs.Left.{left}
+use Rattle.search.proofs.run.run.Given as goal
+
+abbrev pub invariant-loop-least : goal.invariant-loop-least
+invariant-loop-least g l =
+    ((s : ℕ) → Searching g.K.Kind.ops (scene (net l.network) (g.F.Fares.fare l.fares)) s (labels_of l.initial.work) → NotYet l.to (labels_of l.initial.work)
+    → Searching g.K.Kind.ops (scene (net l.network) (g.F.Fares.fare l.fares)) s (labels_of l.work) × NotYet l.to (labels_of l.work))
+    × KeepsRest l.initial.work l.work
+
+abbrev pub decreases-loop-least : goal.decreases-loop-least
+decreases-loop-least g l = left (net l.network).counts (labels_of l.work)

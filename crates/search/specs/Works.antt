@@ -1,0 +1,17 @@
+-- What one search works on.
+use Rattle.std.specs.Prelude.{◌≡◌, length, drop}
+use Rattle.network.specs.Tariffs.{arrival_entries}
+use Rattle.search.specs.declared.work.Work.{Work}
+use Rattle.search.specs.Labels.{Labels}
+use Rattle.search.specs.Tables.{begun_in}
+
+-- what is known
+abbrev pub labels_of : {V : Type 0} → Work V → Labels V
+labels_of w = begun_in w.extent.counts w.begun w.labels.now
+
+-- the same network and the same lent table, and what lies beyond the entries that are needed is the same
+pub record KeepsRest {V : Type 0} (a b : Work V) : Type 0 where
+  pub extent : b.extent ≡ a.extent
+  pub name : b.labels.ghost_name ≡ a.labels.ghost_name
+  pub long : length b.labels.now ≡ length a.labels.now
+  pub beyond : drop (arrival_entries a.extent.counts) b.labels.now ≡ drop (arrival_entries a.extent.counts) a.labels.now
