@@ -6,7 +6,7 @@ use cost::tally::Tally;
 use cost::worst::Worst;
 
 // A kind of cost whose values are told as numbers.
-pub trait Numbered: Kind {
+pub(crate) trait Numbered: Kind {
     fn number(&self, value: Self::Value) -> u64;
 }
 
@@ -32,14 +32,14 @@ impl Numbered for Worst {
 
 // The answers to queries: how many paths were found, and a digest of what they cost.
 #[derive(Clone, Copy)]
-pub struct Answers {
-    pub found: u32,
-    pub digest: u64,
+pub(crate) struct Answers {
+    pub(crate) found: u32,
+    pub(crate) digest: u64,
 }
 
 impl Answers {
     // No answers.
-    pub fn new() -> Answers {
+    pub(crate) fn new() -> Answers {
         Answers {
             found: 0,
             digest: 0xcbf2_9ce4_8422_2325,
@@ -47,7 +47,7 @@ impl Answers {
     }
 
     // The answers with one more: a cost, or that there is no path.
-    pub fn with(self, answer: Option<u64>) -> Answers {
+    pub(crate) fn with(self, answer: Option<u64>) -> Answers {
         let number = answer.unwrap_or(u64::MAX);
         Answers {
             found: self.found.wrapping_add(u32::from(answer.is_some())),

@@ -11,22 +11,22 @@ const QUERIES: u32 = 64;
 // The size of a made network: its nodes and channels, and how many of a hundred pairs of channels
 // have a converter, at each node.
 #[derive(Clone, Copy)]
-pub struct Size {
-    pub nodes: u32,
-    pub channels: u32,
-    pub share: u32,
+pub(crate) struct Size {
+    pub(crate) nodes: u32,
+    pub(crate) channels: u32,
+    pub(crate) share: u32,
 }
 
 // From where to where a path is wanted.
 #[derive(Clone, Copy)]
-pub struct Query {
-    pub from: u8,
-    pub to: u8,
+pub(crate) struct Query {
+    pub(crate) from: u8,
+    pub(crate) to: u8,
 }
 
 impl Size {
     // Four spans leave each node.
-    pub fn spans(self) -> u32 {
+    pub(crate) fn spans(self) -> u32 {
         self.nodes.wrapping_mul(4)
     }
 
@@ -139,7 +139,11 @@ fn converter_section(heap: Global, size: Size, draws: &mut Draws) -> Result<Vec<
 }
 
 // The plan of a made network.
-pub fn plan_bytes(heap: Global, size: Size, draws: &mut Draws) -> Result<Vec<u8>, AllocError> {
+pub(crate) fn plan_bytes(
+    heap: Global,
+    size: Size,
+    draws: &mut Draws,
+) -> Result<Vec<u8>, AllocError> {
     let numbers = number_section(heap, size)?;
     let spans = span_section(heap, size, draws)?;
     let tariffs = tariff_section(heap, size, draws)?;
@@ -159,7 +163,11 @@ pub fn plan_bytes(heap: Global, size: Size, draws: &mut Draws) -> Result<Vec<u8>
 }
 
 // The records of the channels: one of ten is held.
-pub fn held(heap: Global, size: Size, draws: &mut Draws) -> Result<Vec<Channel>, AllocError> {
+pub(crate) fn held(
+    heap: Global,
+    size: Size,
+    draws: &mut Draws,
+) -> Result<Vec<Channel>, AllocError> {
     let mut channels = Vec::new(heap);
     for _ in 0..size.span_channels() {
         let channel = match draws.below(10) {
@@ -175,7 +183,7 @@ pub fn held(heap: Global, size: Size, draws: &mut Draws) -> Result<Vec<Channel>,
 }
 
 // Whether each span is open: those that lead to node 0 are shut, so that nothing leads there.
-pub fn states(heap: Global, network: &Network) -> Result<Vec<SpanState>, AllocError> {
+pub(crate) fn states(heap: Global, network: &Network) -> Result<Vec<SpanState>, AllocError> {
     let mut states = Vec::new(heap);
     for span in 0..network.counts().spans {
         let state = match network.span(span) {
@@ -188,7 +196,11 @@ pub fn states(heap: Global, network: &Network) -> Result<Vec<SpanState>, AllocEr
 }
 
 // What is asked, between any two nodes or from one to itself.
-pub fn queries(heap: Global, size: Size, draws: &mut Draws) -> Result<Vec<Query>, AllocError> {
+pub(crate) fn queries(
+    heap: Global,
+    size: Size,
+    draws: &mut Draws,
+) -> Result<Vec<Query>, AllocError> {
     let mut queries = Vec::new(heap);
     for _ in 0..QUERIES {
         let from = byte(draws.below(size.nodes));

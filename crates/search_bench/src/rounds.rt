@@ -67,7 +67,7 @@ fn print_time(rt: &HostRuntime, nanoseconds: u64, queries: usize) -> io::Result<
 }
 
 // Prints the answers by a kind, and where rounds are asked for also the time of a query.
-pub fn report<K: Numbered>(
+pub(crate) fn report<K: Numbered>(
     rt: &HostRuntime,
     kind: &K,
     name: &str,
