@@ -4,7 +4,7 @@ use Rattle.std.proofs.lemmas.List.FromFn.{map-range_with_len_more}
 use Rattle.std.proofs.lemmas.Bool.{cond-true, cond-false}
 use Rattle.std.specs.List.{range_with_len}
 use Rattle.std.specs.Option.{option_map, option_or}
-use Rattle.fault.specs.Judging.{Judgement, first, each, inside, unless}
+use Rattle.fault.specs.Judging.{Judgement, judge, first, each, inside, unless}
 
 pub first-append : {F : Type 0} (xs ys : List (Judgement F)) → first (xs ++ ys) ≡ option_or (first xs) (first ys)
 first-append [] ys = refl
@@ -74,3 +74,8 @@ unless_ok (Some f) x e = cc
 pub unless_err : {F : Type 0} (r : Option F) (f : F) → ◌≡◌ {A = Result (Unit {0}) F} (Err f) (unless r tt) → r ≡ Some f
 unless_err None f e = cc
 unless_err (Some g) f e = let p : f ≡ g = cc in ap (λ x. Some x) (sym p)
+
+-- a last judgement that is sound changes nothing
+pub last_sound : {F : Type 0} (xs : List (Judgement F)) (b : Bool) (f : F) → b ≡ true → first (xs ++ judge b f ∷ []) ≡ first xs
+last_sound [] b f e = cond-true b None (Some f) e
+last_sound (x ∷ xs) b f e = ap (λ r. cond x.sound r (Some x.fault)) (last_sound xs b f e)

@@ -12,7 +12,7 @@ use Rattle.fault.specs.declared.plan.FileFault.TheVariants.{Size, Version, Value
 use Rattle.fault.specs.declared.plan.LoadFault.{LoadFault}
 use Rattle.fault.specs.declared.plan.LoadFault.TheVariants as load
 use Rattle.fault.specs.declared.book.BookFault.{BookFault}
-use Rattle.fault.specs.declared.book.BookFault.TheVariants.{LoadTable, BookTable, NoNode, NoSpan, WorkTable, NoPath}
+use Rattle.fault.specs.declared.book.BookFault.TheVariants.{LoadTable, BookTable, OtherCounts, NoCircuit, OtherBook, CircuitState, NoNode, SameNode, NoSpan, WorkTable, SlipBuffer, NoPath}
 use Rattle.fault.specs.declared.label.LabelFault.{LabelFault}
 use Rattle.fault.specs.declared.label.LabelFault.TheVariants.{Grid, Spacing, Identifier, Number}
 use Rattle.fault.specs.declared.ticket.WordFault.{WordFault}
@@ -43,9 +43,15 @@ of_file (Section f) = of_section f
 abbrev pub of_book : BookFault → Report
 of_book LoadTable = report 10 0 layer.Book
 of_book BookTable = report 11 0 layer.Book
+of_book OtherCounts = report 20 0 layer.Book
+of_book NoCircuit = report 21 0 layer.Book
+of_book OtherBook = report 22 0 layer.Book
+of_book CircuitState = report 23 0 layer.Book
 of_book NoNode = report 24 0 layer.Book
+of_book SameNode = report 25 0 layer.Book
 of_book NoSpan = report 26 0 layer.Book
 of_book WorkTable = report 27 0 layer.Book
+of_book SlipBuffer = report 28 0 layer.Book
 of_book NoPath = report 29 0 layer.Book
 
 abbrev pub of_load : LoadFault → Report
@@ -63,6 +69,7 @@ of_ticket (ticket.Word f) = of_word f
 of_ticket (ticket.Verb at) = report 16 at layer.Ticket
 of_ticket (ticket.Count at) = report 17 at layer.Ticket
 of_ticket (ticket.Sort at) = report 18 at layer.Ticket
+of_ticket (ticket.Kind at) = report 19 at layer.Ticket
 
 abbrev pub of_label : LabelFault → Report
 of_label Grid = report 30 0 layer.Label

@@ -9,12 +9,24 @@ pub enum BookFault {
     LoadTable,
     // a table of the book is too short
     BookTable,
+    // the network's counts are not those that the book was opened for
+    OtherCounts,
+    // there is no such circuit
+    NoCircuit,
+    // the offer is another book's
+    OtherBook,
+    // the circuit is not in the state that the call needs
+    CircuitState,
     // there is no such node
     NoNode,
+    // a path has to lead to another node
+    SameNode,
     // there is no such span
     NoSpan,
     // the table that a search works on is too short
     WorkTable,
+    // the buffer for a slip is too short
+    SlipBuffer,
     // no semilightpath leads there over what can be used
     NoPath,
 }
@@ -26,9 +38,15 @@ impl Fault for BookFault {
         let number = match *self {
             BookFault::LoadTable => 10,
             BookFault::BookTable => 11,
+            BookFault::OtherCounts => 20,
+            BookFault::NoCircuit => 21,
+            BookFault::OtherBook => 22,
+            BookFault::CircuitState => 23,
             BookFault::NoNode => 24,
+            BookFault::SameNode => 25,
             BookFault::NoSpan => 26,
             BookFault::WorkTable => 27,
+            BookFault::SlipBuffer => 28,
             BookFault::NoPath => 29,
         };
         Report::new(number, 0, Layer::Book)

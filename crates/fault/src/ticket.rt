@@ -27,6 +27,8 @@ pub enum TicketFault {
     Count { at: usize },
     // a number where a name belongs, or the reverse
     Sort { at: usize },
+    // an unknown kind of cost
+    Kind { at: usize },
 }
 
 impl From<WordFault> for TicketFault {
@@ -61,6 +63,7 @@ impl Fault for TicketFault {
             TicketFault::Verb { at } => Report::new(16, at, layer),
             TicketFault::Count { at } => Report::new(17, at, layer),
             TicketFault::Sort { at } => Report::new(18, at, layer),
+            TicketFault::Kind { at } => Report::new(19, at, layer),
         }
     }
 }
