@@ -1,12 +1,16 @@
 -- What the words of a line say.
-use Rattle.std.specs.Prelude.{ℕ, ◌+◌, cond, List, [], ◌∷◌, length, drop, Ok, Err, codes, Result, ◌==◌, slice_index_or}
+use Rattle.std.specs.Prelude.{ℕ, ◌+◌, cond, List, [], ◌∷◌, length, drop, Some, None, Ok, Err, codes, Option, Result, ◌==◌, slice_index_or}
+use Rattle.std.specs.Option.{ok_or}
 use Rattle.std.specs.Str.{bytes_eq}
 use Rattle.fault.specs.Judging.{Judgement, judge, first, inside, unless}
 use Rattle.fault.specs.declared.ticket.TicketFault.{TicketFault}
 use Rattle.fault.specs.declared.ticket.TicketFault.TheVariants as fault
 use Rattle.ticket.specs.Lines.{Token, number, name, place, value, of_length, of_line, words}
+use Rattle.ticket.specs.declared.CostKind.{CostKind}
+use Rattle.ticket.specs.declared.CostKind.TheVariants as kind
+use Rattle.ticket.specs.declared.Order.{Order}
 use Rattle.ticket.specs.declared.Ticket.{Ticket}
-use Rattle.ticket.specs.declared.Ticket.TheVariants.{Shut}
+use Rattle.ticket.specs.declared.Ticket.TheVariants as ticket
 use Rattle.ticket.specs.declared.verb.Verb.{Verb}
 use Rattle.ticket.specs.declared.verb.Verb.TheVariants as verb
 
@@ -14,17 +18,44 @@ abbrev pub then : {A B E : Type 0} → Result A E → (A → Result B E) → Res
 then (Ok x) k = k x
 then (Err e) k = Err e
 
+-- what bytes name, by a list of names and what each stands for
+abbrev pub named : {A : Type 0} → List (List ℕ × A) → List ℕ → Option A
+named [] w = None
+named (n ∷ ns) w = cond (bytes_eq w n.0) (Some n.1) (named ns w)
+
+abbrev pub verbs : List (List ℕ × Verb)
+verbs =
+    (codes "LIGHT", verb.Light) ∷
+    (codes "QUOTE", verb.Quote) ∷
+    (codes "DARK", verb.Dark) ∷
+    (codes "SHUT", verb.Shut) ∷
+    (codes "SLIP", verb.Slip) ∷ []
+
+abbrev pub kinds : List (List ℕ × CostKind)
+kinds =
+    (codes "SUM", kind.Sum) ∷
+    (codes "FEW", kind.Few) ∷
+    (codes "WORST", kind.Worst) ∷ []
+
 abbrev pub verb_of : Token → Result Verb TicketFault
 verb_of (number at w) = Err (fault.Verb at)
-verb_of (name at w) = cond (bytes_eq w (codes "SHUT")) (Ok verb.Shut) (Err (fault.Verb at))
+verb_of (name at w) = ok_or (named verbs w) (fault.Verb at)
 
 -- how many words a verb wants after it
 abbrev pub wants : Verb → ℕ
+wants verb.Light = 4
+wants verb.Quote = 4
+wants verb.Dark = 1
 wants verb.Shut = 1
+wants verb.Slip = 1
 
 abbrev pub number_of : Token → Result ℕ TicketFault
 number_of (number at w) = Ok (value w)
 number_of (name at w) = Err (fault.Sort at)
+
+abbrev pub kind_of : Token → Result CostKind TicketFault
+kind_of (number at w) = Err (fault.Sort at)
+kind_of (name at w) = ok_or (named kinds w) (fault.Kind at)
 
 -- the place of the first of some words, or the place after the n bytes of the line
 abbrev pub beyond : ℕ → List Token → ℕ
@@ -35,12 +66,22 @@ beyond n (t ∷ ts) = place t
 abbrev pub nth : List Token → ℕ → Token
 nth ts k = slice_index_or ts k (name 0 [])
 
-abbrev pub shut : ℕ → Result Ticket TicketFault
-shut span = Ok (Shut span)
+-- the order that four words make, judged from left to right
+abbrev pub order_of : List Token → Result Order TicketFault
+order_of ts =
+    then (number_of (nth ts 0)) (λ circuit.
+    then (number_of (nth ts 1)) (λ from.
+    then (number_of (nth ts 2)) (λ to.
+    then (kind_of (nth ts 3)) (λ kind.
+    Ok (record { circuit = circuit; from = from; to = to; kind = kind })))))
 
 -- what a verb says with as many words as it wants
 abbrev pub told : Verb → List Token → Result Ticket TicketFault
-told verb.Shut ts = then (number_of (nth ts 0)) shut
+told verb.Light ts = then (order_of ts) (λ o. Ok (ticket.Light o))
+told verb.Quote ts = then (order_of ts) (λ o. Ok (ticket.Quote o))
+told verb.Dark ts = then (number_of (nth ts 0)) (λ c. Ok (ticket.Dark c))
+told verb.Shut ts = then (number_of (nth ts 0)) (λ s. Ok (ticket.Shut s))
+told verb.Slip ts = then (number_of (nth ts 0)) (λ c. Ok (ticket.Slip c))
 
 -- what a verb asks for with the words after it, in a line of n bytes
 abbrev pub asked_by : ℕ → List Token → Verb → Result Ticket TicketFault

@@ -8,15 +8,38 @@ ghost use Rattle.ticket.specs.Tickets.{ticket_of};
 use fault::ticket::TicketFault;
 use words::Words;
 
+mod kind;
 mod spot;
 mod verb;
 pub mod word;
 mod words;
 
+// The kinds of cost, by their names on a ticket.
+#[derive(Clone, Copy, PartialEq, Eq, Debug)]
+pub enum CostKind {
+    Sum,
+    Few,
+    Worst,
+}
+
+// A path that is asked for: the circuit that it is for, the nodes that it joins, and the kind of
+// cost by which it is to be a cheapest.
+#[derive(Clone, Copy, PartialEq, Eq, Debug)]
+pub struct Order {
+    pub circuit: u16,
+    pub from: u16,
+    pub to: u16,
+    pub kind: CostKind,
+}
+
 // What a ticket asks for.
 #[derive(Clone, Copy, PartialEq, Eq, Debug)]
 pub enum Ticket {
+    Light(Order),
+    Quote(Order),
+    Dark { circuit: u16 },
     Shut { span: u16 },
+    Slip { circuit: u16 },
 }
 
 // Whether a line is neither empty nor over 80 bytes.
@@ -33,5 +56,5 @@ pub fn read(line: &[u8]) -> Result<Ticket, TicketFault>
     if !of_length(line) {
         return Err(TicketFault::Length);
     }
-    Words::cut(line)?.order()
+    Words::cut(line)?.ticket()
 }

@@ -8,7 +8,11 @@ use fault::ticket::TicketFault;
 // The first word of a ticket.
 #[derive(Clone, Copy)]
 pub(crate) enum Verb {
+    Light,
+    Quote,
+    Dark,
     Shut,
+    Slip,
 }
 
 impl Verb {
@@ -17,7 +21,8 @@ impl Verb {
         ensures { result ≡ wants self }
     {
         match self {
-            Verb::Shut => 1,
+            Verb::Light | Verb::Quote => 4,
+            Verb::Dark | Verb::Shut | Verb::Slip => 1,
         }
     }
 }
@@ -29,9 +34,16 @@ impl TryFrom<Word<'_>> for Verb {
 
     // The verb that a word is.
     fn try_from(word: Word<'_>) -> Result<Verb, TicketFault> {
-        match word {
-            Word::Name(part) if part.bytes == b"SHUT".as_slice() => Ok(Verb::Shut),
-            _ => Err(TicketFault::Verb { at: word.place() }),
+        let Word::Name(part) = word else {
+            return Err(TicketFault::Verb { at: word.place() });
+        };
+        match part.bytes {
+            b"LIGHT" => Ok(Verb::Light),
+            b"QUOTE" => Ok(Verb::Quote),
+            b"DARK" => Ok(Verb::Dark),
+            b"SHUT" => Ok(Verb::Shut),
+            b"SLIP" => Ok(Verb::Slip),
+            _ => Err(TicketFault::Verb { at: part.at }),
         }
     }
 }

@@ -5,12 +5,12 @@ ghost use Rattle.fault.specs.declared.ticket.TicketFault.TheVariants as ticket_f
 ghost use Rattle.fault.specs.declared.ticket.WordFault.TheVariants as word_fault;
 ghost use Rattle.arrayvec.specs.ArrayVec.{array_vec_len};
 ghost use Rattle.ticket.specs.Lines.{part, small, too_large, token_of, word_from, of_line, words};
-ghost use Rattle.ticket.specs.Tickets.{beyond, meaning, nth, number_of};
+ghost use Rattle.ticket.specs.Tickets.{beyond, kind_of, meaning, nth, number_of, order_of};
 
-use super::Ticket;
 use super::spot::Spot;
 use super::verb::Verb;
 use super::word::{Word, number, of_word};
+use super::{CostKind, Order, Ticket};
 use arrayvec::ArrayVec;
 use fault::ticket::{TicketFault, WordFault};
 
@@ -61,7 +61,7 @@ impl<'a> Words<'a> {
     }
 
     // What the words say.
-    pub(crate) fn order(&self) -> Result<Ticket, TicketFault>
+    pub(crate) fn ticket(&self) -> Result<Ticket, TicketFault>
         ensures { result ≡ meaning (length self.now.line.now) (map token_of self.now.held.items) }
     {
         let Some(first) = self.held.first() else {
@@ -70,10 +70,31 @@ impl<'a> Words<'a> {
         let verb = Verb::try_from(*first)?;
         self.counted(verb.takes())?;
         match verb {
+            Verb::Light => Ok(Ticket::Light(self.order()?)),
+            Verb::Quote => Ok(Ticket::Quote(self.order()?)),
+            Verb::Dark => Ok(Ticket::Dark {
+                circuit: self.number(1)?,
+            }),
             Verb::Shut => Ok(Ticket::Shut {
                 span: self.number(1)?,
             }),
+            Verb::Slip => Ok(Ticket::Slip {
+                circuit: self.number(1)?,
+            }),
         }
+    }
+
+    // The order that the four words after the verb make.
+    fn order(&self) -> Result<Order, TicketFault>
+        requires { length self.now.held.items ≡ 5 }
+        ensures { result ≡ order_of (drop 1 (map token_of self.now.held.items)) }
+    {
+        Ok(Order {
+            circuit: self.number(1)?,
+            from: self.number(2)?,
+            to: self.number(3)?,
+            kind: self.kind(4)?,
+        })
     }
 
     // Refuses too many words, or too few, after the verb.
@@ -105,5 +126,17 @@ impl<'a> Words<'a> {
         };
         // it is small, and so it fits
         Ok(number(part.bytes) as u16)
+    }
+
+    // The kind of cost that the word at `k` is.
+    fn kind(&self, k: usize) -> Result<CostKind, TicketFault>
+        requires { k < length self.now.held.items }
+        ensures { result ≡ kind_of (nth (map token_of self.now.held.items) k) }
+    {
+        let word = self.held[k];
+        let Word::Name(part) = word else {
+            return Err(TicketFault::Sort { at: word.place() });
+        };
+        CostKind::try_from(part)
     }
 }
