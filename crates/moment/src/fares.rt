@@ -5,6 +5,7 @@ ghost use Rattle.moment.specs.Charged.{fare_charged};
 
 use super::Moment;
 use network::step::Step;
+use records::chain::channel_at;
 use records::state::SpanState;
 use semilightpath::fares::Fares;
 
@@ -20,9 +21,7 @@ impl Moment<'_, '_, '_, '_, '_> {
     fn channel_is_free(&self, step: Step) -> bool
         ensures { result ≡ channel_is_free (net self.now.network.now).counts self.now.channels.now step }
     {
-        let channels = self.network.counts().channels;
-        let entry = usize::from(step.span) * channels + usize::from(step.channel);
-        self.channels.get(entry).copied().flatten().is_none()
+        channel_at(self.network.extent(), self.channels, step).is_none()
     }
 }
 

@@ -28,7 +28,7 @@ abbrev pub next : Channel → Option Step
 next None = None
 next (Some h) = h.next
 
--- the record of the channel that a step takes; past the end of the table all is free
+-- the record that stands in the entry of a step's channel; past the end of the table all is free
 abbrev pub channel_at : Counts → List Channel → Step → Channel
 channel_at n channels s = slice_index_or channels (span_entry n s.span s.channel) None
 
@@ -63,3 +63,8 @@ route_of circuits c = cond (nat_lt c circuit_count) (standing (circuit_at circui
 -- the path of circuit c; none where it does not stand
 abbrev pub path_of : Counts → List Channel → List Circuit → ℕ → List Step
 path_of n channels circuits c = along n channels (route_of circuits c)
+
+-- how many steps a route has, and none where there is no route
+abbrev pub steps_of : Option Route → ℕ
+steps_of None = 0
+steps_of (Some r) = r.steps

@@ -1,2 +1,4 @@
 pub mod Chains
 pub mod Sound
+pub mod Changes
+pub mod Standing

@@ -33,7 +33,11 @@ pub fn read_path<V: Copy>(
 }
 
 // The last step of the path to a point, and where that goes on from; none where the path begins.
-fn back<V: Copy>(extent: Extent, labels: &[Label<V>], point: Point) -> Option<(Step, Point)>
+pub fn last_step<V: Copy>(
+    extent: Extent,
+    labels: &[Label<V>],
+    point: Point,
+) -> Option<(Step, Point)>
     ensures { result ≡ back_from (labels_in extent.counts labels.now) point.node point.entered }
 {
     let channel = point.entered?;
@@ -53,7 +57,7 @@ fn count_steps<V: Copy>(extent: Extent, labels: &[Label<V>], end: Point) -> usiz
     let limit = extent.arrival_entries();
     let mut point = end;
     for count in 0..limit {
-        let Some(last) = back(extent, labels, point) else {
+        let Some(last) = last_step(extent, labels, point) else {
             return count;
         };
         point = last.1;
@@ -68,7 +72,7 @@ fn write_steps<V: Copy>(extent: Extent, labels: &[Label<V>], end: Point, path: &
 {
     let mut point = end;
     for written in 0..path.len() {
-        let Some(last) = back(extent, labels, point) else {
+        let Some(last) = last_step(extent, labels, point) else {
             return;
         };
         let place = path.len() - 1 - written;

@@ -17,7 +17,7 @@ use network::step::Step;
 const LARGEST_TARIFF: u16 = 65534;
 
 // The ends of a step's span; what is no span joins node 0 to itself.
-pub(crate) fn ends(network: &Network, step: Step) -> Span
+pub fn ends(network: &Network, step: Step) -> Span
     ensures tail { result.tail ≡ tail_of (net network.now) step }
     ensures head { result.head ≡ head_of (net network.now) step }
 {
