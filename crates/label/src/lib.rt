@@ -13,6 +13,7 @@ use fault::label::LabelFault;
 use fields::{GRID, IDENTIFIER};
 use network::number::in_range;
 use network::spacing::Spacing;
+use std::fmt;
 
 mod bits;
 mod centre;
@@ -22,6 +23,20 @@ mod fields;
 #[derive(Clone, Copy, PartialEq, Eq, Debug)]
 pub struct Label {
     pub bits: u32,
+}
+
+// A label is printed as eight hexadecimal digits.
+#[tactic(auto, using(crate::proofs::Printed::printed))]
+impl fmt::Display for Label {
+    ghost use Rattle.std.specs.Prelude.{Some};
+    ghost use Rattle.label.specs.Texts.{label_text};
+
+    ghost output = { λ l. Some (label_text l.bits) };
+
+    fn fmt<W: fmt::Write>(&self, f: &mut fmt::Formatter<W>) -> fmt::Result {
+        let bits = self.bits;
+        write!(f, "{bits:08X}")
+    }
 }
 
 // What a label tells: its spacing, its number n, and its centre in MHz.

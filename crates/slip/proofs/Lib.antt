@@ -1,0 +1,3 @@
+pub mod Labelled
+pub mod Told
+pub mod Written

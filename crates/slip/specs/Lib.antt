@@ -1,0 +1,2 @@
+pub mod Slips
+pub mod Texts
