@@ -1,3 +1,7 @@
 pub mod State
+pub mod Changes
+pub mod Refusing
+pub mod Taking
+pub mod Answering
+pub mod Calls
 pub mod Opening
-pub mod Shutting

@@ -12,4 +12,5 @@ invariant_of-result c =
     let after : Tables = contents c.clear.new.self in
     let e : room n before ≡ Ok tt = ap (λ (m : Counts). room m before) c.extent-extent.ensures ∙ c.requires in
     let long = opened_long n before after e c.clear.ensures.contents in
-    record { wide = long.0; rows = long.1; spanned = long.2; sound = ∣ opened_sound n before after e c.clear.ensures.contents ∣₁ }
+    let sound = opened_sound n before after e c.clear.ensures.contents in
+    record { wide = long.0; rows = long.1; spanned = long.2; within = sound.within; apart = sound.apart; whole = sound.whole; named = sound.named }

@@ -1,0 +1,9 @@
+//! Examples of what a book refuses: each number, the lowest of several, and nothing changed.
+#![tactic(auto)]
+
+#[cfg(test)]
+mod hands;
+#[cfg(test)]
+mod marks;
+#[cfg(test)]
+mod numbers;
