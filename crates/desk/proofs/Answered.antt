@@ -1,18 +1,18 @@
 -- An input is answered line by line, however it is cut into chunks.
-use Rattle.std.proofs.Common.{◌≡◌, ℕ, Bool, true, false, cond, eqb, List, [], ◌∷◌, ◌++◌, length, fold, sym, refl, ap, ◌∙◌, arith}
+use Rattle.std.proofs.Common.{◌≡◌, ℕ, true, false, cond, eqb, List, [], ◌∷◌, ◌++◌, length, sym, refl, ap, subst, subst₂, ◌∙◌, arith, MatchBool}
 use Rattle.std.specs.List.{concat as whole}
 use Rattle.std.proofs.lemmas.List.{append-nil, append_assoc}
-use Rattle.std.proofs.lemmas.List.Sums.{fold-append}
-use Rattle.std.proofs.lemmas.Bool.{cond-false, ne_eqb}
+use Rattle.std.proofs.lemmas.Bool.{cond-false, ne_eqb, MatchBool-at_false}
 use Rattle.network.specs.declared.counts.Counts.{Counts}
+use Rattle.network.specs.Net.{Net}
 use Rattle.book.specs.State.{Tables}
 use Rattle.ticket.proofs.Reading.{long_line}
 use Rattle.desk.specs.Holding.{kept}
-use Rattle.desk.specs.Replies.{text}
-use Rattle.desk.specs.Serving.{served, served_after, reply_of, after_line}
-use Rattle.desk.specs.Feeding.{Desk, desk, replied, turned, next, fed, said, ended, said_last}
-use Rattle.desk.specs.Inputs.{onto, lines, Unbroken, SplitAtTens, replies, after_lines, said_to, AnsweredByLines}
-use Rattle.desk.proofs.Going.{said-append}
+use Rattle.desk.specs.Runs.{Runs}
+use Rattle.desk.specs.Serving.{Served, Answered}
+use Rattle.desk.specs.Feeding.{Desk, desk, Replies, Turns, Keeps, Takes, Feeds, Ends}
+use Rattle.desk.specs.Inputs.{onto, lines, Unbroken, SplitAtTens, ByLines, AnsweredByLines}
+use Rattle.desk.proofs.Runs.{runs_one, runs_append}
 use Rattle.desk.proofs.Lines.{kept_push}
 
 -- bytes that stand before some lines
@@ -43,71 +43,89 @@ split_at_tens = record {
   none = refl;
 }
 
-module _ (n : Counts) where
+module _ (w : Net) (n : Counts) where
   -- what is kept of a line is answered as the whole line
-  replied_kept : (p : List ℕ) → replied n (kept p) ≡ replied n p
-  replied_kept p = ap (λ c. text (reply_of (served n c)) ++ 10 ∷ []) (long_line p)
+  answered_kept : (p : List ℕ) (t : Tables) (said : List ℕ) (t' : Tables) → Answered w n t (kept p) said t' → Answered w n t p said t'
+  unfolding Answered
+  answered_kept p t said t' a = subst (λ c. Served w n t c said t') (long_line p) a
 
-  after_kept : (p : List ℕ) (t : Tables) → after_line n (kept p) t ≡ after_line n p t
-  after_kept p t = ap (λ c. served_after n c t) (long_line p)
+  replied_kept : (p : List ℕ) (t : Tables) (out : List ℕ) (t' : Tables) → Replies w n t (kept p) out t' → Replies w n t p out t'
+  replied_kept p t out t' r = record {
+    said = r.said;
+    answered = answered_kept p t r.said t' r.answered;
+    written = r.written;
+  }
 
   -- a line that has begun
   begun : (x : ℕ) (p : List ℕ) → eqb (length (kept (x ∷ p))) 0 ≡ false
   begun x p = ne_eqb (length (kept (x ∷ p))) 0 (λ e. omega arith)
 
-  -- the input bs, after the bytes p of a line that has begun
-  run_said : (bs p : List ℕ) (t : Tables) → said n (desk t (kept p)) bs ++ said_last n (fed n (desk t (kept p)) bs) ≡ replies n (before p (lines bs))
-  run_said [] [] t = refl
-  run_said [] (x ∷ p) t =
-      cond-false _ [] (replied n (kept (x ∷ p))) (begun x p) ∙ replied_kept (x ∷ p) ∙ rw (before_none x p, append-nil)
-  run_said (b ∷ bs) p t =
-      let s : Desk = desk t (kept p) in
-      let s' : Bool → Desk = λ v. cond v (turned n s) (desk t (kept (kept p ++ b ∷ []))) in
-      elim (eqb b 10) as (λ v. (cond v (replied n (kept p)) [] ++ said n (s' v) bs) ++ said_last n (fed n (s' v) bs) ≡ replies n (before p (cond v ([] ∷ lines bs) (onto b (lines bs))))) [
-        | true ↦
-            append_assoc (replied n (kept p)) (said n (turned n s) bs) (said_last n (fed n (turned n s) bs))
-            ∙ ap (λ (l : List ℕ). replied n (kept p) ++ l) (run_said bs [] (after_line n (kept p) t))
-            ∙ ap (λ (l : List ℕ). l ++ replies n (lines bs)) (replied_kept p ∙ ap (replied n) (sym (append-nil p)))
-            ∙ ap (replies n) (sym (before_line p [] (lines bs)))
-        | false ↦
-            ap (λ (l : List ℕ). said n (desk t l) bs ++ said_last n (fed n (desk t l) bs)) (kept_push p b)
-            ∙ run_said bs (p ++ b ∷ []) t
-            ∙ ap (replies n) (before_push p b (lines bs))
-      ]
+  -- the input ends after the bytes p of a line
+  at_end : (p : List ℕ) (t : Tables) (out : List ℕ) (d : Desk) → Ends w n (desk t (kept p)) out d → ByLines w n t (before p []) out d
+  at_end [] t out d e = record {
+    replied = record { written = e.written; left = ap (λ (s : Desk). s.tables) e.left };
+    emptied = ap (λ (s : Desk). s.line) e.left;
+  }
+  at_end (x ∷ p) t out d e =
+      let turns : Turns w n (desk t (kept (x ∷ p))) out d = MatchBool-at_false _ _ (begun x p) e in
+      record {
+        replied =
+            subst
+            (λ (ls : List (List ℕ)). Runs (Replies w n) t ls out d.tables)
+            (sym (before_none x p))
+            (runs_one (Replies w n) t (x ∷ p) out d.tables (replied_kept (x ∷ p) t out d.tables turns.replied));
+        emptied = turns.emptied;
+      }
 
-  run_left : (bs p : List ℕ) (t : Tables) → ended n (fed n (desk t (kept p)) bs) ≡ desk (after_lines n t (before p (lines bs))) []
-  run_left [] [] t = refl
-  run_left [] (x ∷ p) t =
-      let s : Desk = desk t (kept (x ∷ p)) in
-      cond-false _ s (turned n s) (begun x p) ∙ ap (λ (u : Tables). desk u []) (after_kept (x ∷ p) t ∙ ap (after_lines n t) (sym (before_none x p)))
-  run_left (b ∷ bs) p t =
-      let s : Desk = desk t (kept p) in
-      let s' : Bool → Desk = λ v. cond v (turned n s) (desk t (kept (kept p ++ b ∷ []))) in
-      elim (eqb b 10) as (λ v. ended n (fed n (s' v) bs) ≡ desk (after_lines n t (before p (cond v ([] ∷ lines bs) (onto b (lines bs))))) []) [
+  -- the input bs, after the bytes p of a line
+  run : (bs p : List ℕ) (t : Tables) (out last : List ℕ) (m d : Desk) → Feeds w n (desk t (kept p)) bs out m → Ends w n m last d → ByLines w n t (before p (lines bs)) (out ++ last) d
+  run [] p t out last m d f e =
+      subst
+      (λ (o : List ℕ). ByLines w n t (before p []) (o ++ last) d)
+      (sym f.written)
+      (at_end p t last d (subst (λ (s : Desk). Ends w n s last d) f.left e))
+  run (b ∷ bs) p t out last m d f e =
+      elim (eqb b 10) as (λ v. MatchBool v (Turns w n (desk t (kept p)) f.first f.between) (Keeps (desk t (kept p)) b f.first f.between) → ByLines w n t (before p (cond v ([] ∷ lines bs) (onto b (lines bs)))) (out ++ last) d) [
         | true ↦
-            run_left bs [] (after_line n (kept p) t)
-            ∙ ap (λ (u : Tables). desk (after_lines n u (lines bs)) []) (after_kept p t ∙ ap (λ (l : List ℕ). after_line n l t) (sym (append-nil p)))
-            ∙ ap (λ (ls : List (List ℕ)). desk (after_lines n t ls) []) (sym (before_line p [] (lines bs)))
+            λ h.
+            let r = run bs [] f.between.tables f.rest last m d (subst (λ (l : List ℕ). Feeds w n (desk f.between.tables l) bs f.rest m) h.emptied f.goes_on) e in
+            subst
+            (λ (ls : List (List ℕ)). ByLines w n t ls (out ++ last) d)
+            (ap (λ (l : List ℕ). l ∷ lines bs) (sym (append-nil p)) ∙ sym (before_line p [] (lines bs)))
+            (record {
+              replied = record {
+                between = f.between.tables;
+                first = f.first;
+                rest = f.rest ++ last;
+                begins = replied_kept p t f.first f.between.tables h.replied;
+                goes_on = r.replied;
+                written = ap (λ (o : List ℕ). o ++ last) f.written ∙ append_assoc f.first f.rest last;
+              };
+              emptied = r.emptied;
+            })
         | false ↦
-            ap (λ (l : List ℕ). ended n (fed n (desk t l) bs)) (kept_push p b)
-            ∙ run_left bs (p ++ b ∷ []) t
-            ∙ ap (λ (ls : List (List ℕ)). desk (after_lines n t ls) []) (before_push p b (lines bs))
+            λ h.
+            let r = run bs (p ++ b ∷ []) t f.rest last m d (subst (λ (s : Desk). Feeds w n s bs f.rest m) (h.left ∙ ap (desk t) (kept_push p b)) f.goes_on) e in
+            subst₂
+            (λ (ls : List (List ℕ)) (o : List ℕ). ByLines w n t ls (o ++ last) d)
+            (before_push p b (lines bs))
+            (sym (f.written ∙ ap (λ (o : List ℕ). o ++ f.rest) h.written))
+            r
       ]
+      f.begins
 
   -- chunk after chunk
-  chunks_fed : (s : Desk) (chunks : List (List ℕ)) → fold (fed n) s chunks ≡ fed n s (whole chunks)
-  chunks_fed s [] = refl
-  chunks_fed s (c ∷ cs) = chunks_fed (fed n s c) cs ∙ sym (fold-append (next n) s c (whole cs))
-
-  chunks_said : (s : Desk) (chunks : List (List ℕ)) → said_to n s chunks ≡ said n s (whole chunks) ++ said_last n (fed n s (whole chunks))
-  chunks_said s [] = refl
-  chunks_said s (c ∷ cs) =
-      ap (λ (l : List ℕ). said n s c ++ l) (chunks_said (fed n s c) cs)
-      ∙ sym (append_assoc (said n s c) (said n (fed n s c) (whole cs)) (said_last n (fed n (fed n s c) (whole cs))))
-      ∙ (λ k. sym (said-append n s c (whole cs)) k ++ said_last n (sym (fold-append (next n) s c (whole cs)) k))
+  chunks_fed : (chunks : List (List ℕ)) (s : Desk) (out : List ℕ) (m : Desk) → Runs (Feeds w n) s chunks out m → Feeds w n s (whole chunks) out m
+  chunks_fed [] s out m h = h
+  chunks_fed (c ∷ cs) s out m h =
+      subst
+      (λ (o : List ℕ). Feeds w n s (c ++ whole cs) o m)
+      (sym h.written)
+      (runs_append (Takes w n) s c (whole cs) h.first h.rest h.between m h.begins (chunks_fed cs h.between h.rest m h.goes_on))
 
 pub answered_by_lines : AnsweredByLines
-answered_by_lines n t chunks = record {
-  written = chunks_said n (desk t []) chunks ∙ run_said n (whole chunks) [] t;
-  left = ap (ended n) (chunks_fed n (desk t []) chunks) ∙ run_left n (whole chunks) [] t;
-}
+answered_by_lines w n t chunks out d h =
+    subst
+    (λ (o : List ℕ). ByLines w n t (lines (whole chunks)) o d)
+    (sym h.written)
+    (run w n (whole chunks) [] t h.first h.rest h.between d (chunks_fed w n chunks (desk t []) h.first h.between h.begins) h.goes_on)

@@ -1,11 +1,15 @@
 -- A chunk that is taken byte by byte.
-use Rattle.std.proofs.Common.{◌≡◌, ℕ, ◌+◌, ◌<◌, List, [], ◌∷◌, ◌++◌, length, get_or, take, sym, refl, ap, ◌∙◌}
-use Rattle.std.proofs.lemmas.List.{append-nil, append_assoc, take_more}
-use Rattle.std.proofs.lemmas.List.Sums.{fold_more}
+use Rattle.std.proofs.Common.{◌≡◌, ℕ, ◌+◌, ◌<◌, true, false, eqb, List, [], ◌∷◌, ◌++◌, length, get_or, take, sym, refl, ap, subst, subst₂, ◌∙◌, Ok, Err, Result, OnErr, MatchBool}
+use Rattle.std.proofs.lemmas.List.{append_assoc, take_more}
+use Rattle.std.proofs.lemmas.Result.{on_err_weaker}
 use Rattle.network.specs.declared.counts.Counts.{Counts}
+use Rattle.network.specs.Net.{Net}
 use Rattle.book.specs.declared.Book.{Book}
 use Rattle.book.specs.State.{Tables, Kept}
-use Rattle.desk.specs.Feeding.{Desk, next, says, fed, said, InPart}
+use Rattle.desk.specs.Runs.{Rests}
+use Rattle.desk.specs.Serving.{Answered}
+use Rattle.desk.specs.Feeding.{Desk, desk, Turns, Keeps, Takes, Feeds, Ends, Appends, Leaves, InPart}
+use Rattle.desk.proofs.Runs.{runs_last}
 
 pub kept_then : (a b c : Book) → Kept a b → Kept b c → Kept a c
 kept_then a b c p q = record {
@@ -18,37 +22,49 @@ kept_then a b c p q = record {
   };
 }
 
-pub said-append : (n : Counts) (s : Desk) (xs bs : List ℕ) → said n s (xs ++ bs) ≡ said n s xs ++ said n (fed n s xs) bs
-said-append n s [] bs = refl
-said-append n s (x ∷ xs) bs =
-    ap (λ (l : List ℕ). says n s x ++ l) (said-append n (next n s x) xs bs)
-    ∙ sym (append_assoc (says n s x) (said n (next n s x) xs) (said n (fed n (next n s x) xs) bs))
+pub on_err : {T E P : Type 0} (r : Result T E) → P → OnErr r P
+on_err (Ok v) p = tt
+on_err (Err e) p = p
 
--- the first i bytes of a chunk were taken
-pub record Going (n : Counts) (s₀ : Desk) (out₀ bs : List ℕ) (s : Desk) (told : List ℕ) (i : ℕ) : Type 0 where
-  pub desk : s ≡ fed n s₀ (take i bs)
-  pub out : told ≡ out₀ ++ said n s₀ (take i bs)
+-- a line was answered, the reply is written, and another line begins
+pub turned : (w : Net) (n : Counts) (s s' : Desk) (out out' line said : List ℕ) → Answered w n s.tables line said s'.tables → line ≡ s.line → out' ≡ out ++ (said ++ 10 ∷ []) → s'.line ≡ [] → Appends (Turns w n s) out out' s'
+turned w n s s' out out' line said a e o l =
+    let a' = subst (λ (bs : List ℕ). Answered w n s.tables bs said s'.tables) e a in
+    (said ++ 10 ∷ [], record { replied = record { said = said; answered = a'; written = refl }; emptied = l }, o)
 
--- one more byte of it
-said_more : (n : Counts) (s : Desk) (bs : List ℕ) (i : ℕ) → i < length bs → said n s (take (i + 1) bs) ≡ said n s (take i bs) ++ says n (fed n s (take i bs)) (get_or bs i 0)
-said_more n s bs i h =
-    ap (said n s) (take_more bs i 0 h)
-    ∙ said-append n s (take i bs) (get_or bs i 0 ∷ [])
-    ∙ ap (λ (l : List ℕ). said n s (take i bs) ++ l) (append-nil (says n (fed n s (take i bs)) (get_or bs i 0)))
+-- the tables where a reply was not written, or in part
+module _ {T E : Type 0} (r : Result T E) (w : Net) (n : Counts) (s : Desk) (t : Tables) where
+  pub turned_then : (line said : List ℕ) → Answered w n s.tables line said t → line ≡ s.line → OnErr r (Leaves (Turns w n s) t)
+  turned_then line said a e =
+      let a' = subst (λ (l : List ℕ). Answered w n s.tables l said t) e a in
+      on_err r (said ++ 10 ∷ [], [], record { replied = record { said = said; answered = a'; written = refl }; emptied = refl })
 
-module _ (n m : Counts) (s₀ s : Desk) (out₀ out bs : List ℕ) (i b : ℕ) (g : Going n s₀ out₀ bs s out i) (same : m ≡ n) (h : i < length bs) (is : b ≡ get_or bs i 0) where
-  next_is : next m s b ≡ fed n s₀ (take (i + 1) bs)
-  next_is = (λ k. next (same k) (g.desk k) (is k)) ∙ sym (fold_more (next n) s₀ bs i 0 h)
+  pub taken_then : (b : ℕ) → eqb b 10 ≡ true → OnErr r (Leaves (Turns w n s) t) → OnErr r (Leaves (Takes w n s b) t)
+  taken_then b ten =
+      on_err_weaker r
+      (λ l. (l.0, l.1, subst (λ v. MatchBool v (Turns w n s l.0 (desk t l.1)) (Keeps s b l.0 (desk t l.1))) (sym ten) l.2))
 
-  pub part_way : (t : Tables) → t ≡ (next m s b).tables → InPart n s₀ bs t
-  part_way t e = (i + 1, e ∙ ap (λ (x : Desk). x.tables) next_is)
+  pub ended_then : eqb (length s.line) 0 ≡ false → OnErr r (Leaves (Turns w n s) t) → OnErr r (Leaves (Ends w n s) t)
+  ended_then begun =
+      on_err_weaker r
+      (λ l. (l.0, l.1, subst (λ v. MatchBool v (Rests s l.0 (desk t l.1)) (Turns w n s l.0 (desk t l.1))) (sym begun) l.2))
 
-  pub going_on : (s' : Desk) (out' : List ℕ) → s' ≡ next m s b → out' ≡ out ++ says m s b → Going n s₀ out₀ bs s' out' (i + 1)
-  going_on s' out' p q = record {
-    desk = p ∙ next_is;
-    out =
-        q
-        ∙ (λ k. g.out k ++ says (same k) (g.desk k) (is k))
-        ∙ append_assoc out₀ (said n s₀ (take i bs)) (says n (fed n s₀ (take i bs)) (get_or bs i 0))
-        ∙ ap (λ (l : List ℕ). out₀ ++ l) (sym (said_more n s₀ bs i h));
-  }
+-- one more byte of a chunk, of which the first i were taken
+module _ (w : Net) (n m : Counts) (s₀ s : Desk) (out₀ out bs : List ℕ) (i b : ℕ) (so_far : Appends (Feeds w n s₀ (take i bs)) out₀ out s) (same : m ≡ n) (h : i < length bs) (is : b ≡ get_or bs i 0) where
+  one_more : (said : List ℕ) (s' : Desk) → Takes w m s b said s' → Feeds w n s₀ (take (i + 1) bs) (so_far.0 ++ said) s'
+  one_more said s' t =
+      subst
+      (λ (xs : List ℕ). Feeds w n s₀ xs (so_far.0 ++ said) s')
+      (sym (take_more bs i 0 h))
+      (runs_last (Takes w n) s₀ (take i bs) (get_or bs i 0) so_far.0 said s s' so_far.1
+      (subst₂ (λ (k : Counts) (c : ℕ). Takes w k s c said s') same is t))
+
+  pub part_way : {T E : Type 0} (r : Result T E) (t : Tables) → Leaves (Takes w m s b) t → OnErr r (InPart w n s₀ bs t)
+  part_way r t l = on_err r (i + 1, (so_far.0 ++ l.0, l.1, one_more l.0 (desk t l.1) l.2))
+
+  pub going_on : (out' : List ℕ) (s' : Desk) → Appends (Takes w m s b) out out' s' → Appends (Feeds w n s₀ (take (i + 1) bs)) out₀ out' s'
+  going_on out' s' a = (
+    so_far.0 ++ a.0,
+    one_more a.0 s' a.1,
+    a.2 ∙ ap (λ (o : List ℕ). o ++ a.0) so_far.2 ∙ append_assoc out₀ so_far.0 a.0,
+  )

@@ -1,12 +1,13 @@
 -- What the desk does with the bytes of an input, chunk by chunk.
-use Rattle.std.specs.Prelude.{◌≡◌, ℕ, cond, List, [], ◌∷◌, ◌++◌, length, take, fold, ◌==◌}
+use Rattle.std.specs.Prelude.{◌≡◌, ℕ, List, [], ◌∷◌, ◌++◌, length, take, ◌==◌, MatchBool}
 use Rattle.network.specs.declared.counts.Counts.{Counts}
+use Rattle.network.specs.Net.{Net}
 use Rattle.book.specs.declared.Book.{Book}
 use Rattle.book.specs.State.{Tables, tables}
 use Rattle.desk.specs.declared.line.Line.{Line}
 use Rattle.desk.specs.Holding.{kept, held}
-use Rattle.desk.specs.Replies.{text}
-use Rattle.desk.specs.Serving.{reply_to, after_line}
+use Rattle.desk.specs.Runs.{Rests, Runs}
+use Rattle.desk.specs.Serving.{Answered}
 
 -- what the desk has at a moment: the book's tables, and what is kept of the line that is being read
 pub record Desk : Type 0 where
@@ -20,36 +21,41 @@ desk t line = record { tables = t; line = line }
 abbrev pub desk_of : Book → Line → Desk
 desk_of b l = desk (tables b) (held l)
 
--- what is written in reply to a line
-abbrev pub replied : Counts → List ℕ → List ℕ
-replied n line = text (reply_to n line) ++ 10 ∷ []
+-- what is written in reply to a line: what is said to it, and byte 10
+pub record Replies (w : Net) (n : Counts) (t : Tables) (line out : List ℕ) (t' : Tables) : Type 0 where
+  pub said : List ℕ
+  pub answered : Answered w n t line said t'
+  pub written : out ≡ said ++ 10 ∷ []
 
--- the line is at its end: it is answered, and another begins
-abbrev pub turned : Counts → Desk → Desk
-turned n s = desk (after_line n s.line s.tables) []
+-- the line is at its end: it is replied to, and another begins
+pub record Turns (w : Net) (n : Counts) (s : Desk) (out : List ℕ) (s' : Desk) : Type 0 where
+  pub replied : Replies w n s.tables s.line out s'.tables
+  pub emptied : s'.line ≡ []
 
--- one more byte, by what the desk has then and by what it writes: byte 10 ends a line
-abbrev pub next : Counts → Desk → ℕ → Desk
-next n s b = cond (b == 10) (turned n s) (desk s.tables (kept (s.line ++ b ∷ [])))
+-- the line goes on
+abbrev pub Keeps : Desk → ℕ → List ℕ → Desk → Type 0
+Keeps s b out s' = Rests (desk s.tables (kept (s.line ++ b ∷ []))) out s'
 
-abbrev pub says : Counts → Desk → ℕ → List ℕ
-says n s b = cond (b == 10) (replied n s.line) []
+-- one more byte: byte 10 ends a line, and any other is kept
+abbrev pub Takes : Net → Counts → Desk → ℕ → List ℕ → Desk → Type 0
+Takes w n s b out s' = MatchBool (b == 10) (Turns w n s out s') (Keeps s b out s')
 
--- one more chunk
-abbrev pub fed : Counts → Desk → List ℕ → Desk
-fed n s bs = fold (next n) s bs
-
-abbrev pub said : Counts → Desk → List ℕ → List ℕ
-said n s [] = []
-said n s (b ∷ bs) = says n s b ++ said n (next n s b) bs
-
--- the tables after some front of a chunk
-abbrev pub InPart : Counts → Desk → List ℕ → Tables → Type 0
-InPart n s bs t = (k : ℕ) × (t ≡ (fed n s (take k bs)).tables)
+-- one more chunk, byte by byte
+abbrev pub Feeds : Net → Counts → Desk → List ℕ → List ℕ → Desk → Type 0
+Feeds w n = Runs (Takes w n)
 
 -- the end of the input: it ends a line that has begun
-abbrev pub ended : Counts → Desk → Desk
-ended n s = cond (length s.line == 0) s (turned n s)
+abbrev pub Ends : Net → Counts → Desk → List ℕ → Desk → Type 0
+Ends w n s out s' = MatchBool (length s.line == 0) (Rests s out s') (Turns w n s out s')
 
-abbrev pub said_last : Counts → Desk → List ℕ
-said_last n s = cond (length s.line == 0) [] (replied n s.line)
+-- P tells what is added to a text, and what the desk has then
+abbrev pub Appends : (List ℕ → Desk → Type 0) → List ℕ → List ℕ → Desk → Type 0
+Appends P old new s' = (out : List ℕ) × P out s' × (new ≡ old ++ out)
+
+-- P tells these tables, whatever is written and whatever line is being read
+abbrev pub Leaves : (List ℕ → Desk → Type 0) → Tables → Type 0
+Leaves P t = (out line : List ℕ) × P out (desk t line)
+
+-- the tables after some front of a chunk
+abbrev pub InPart : Net → Counts → Desk → List ℕ → Tables → Type 0
+InPart w n s bs t = (k : ℕ) × Leaves (Feeds w n s (take k bs)) t

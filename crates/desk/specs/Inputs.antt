@@ -1,10 +1,11 @@
 -- What the desk does with a whole input, in lines.
-use Rattle.std.specs.Prelude.{◌≡◌, ℕ, false, cond, List, [], ◌∷◌, ◌++◌, fold, ◌==◌}
-use Rattle.std.specs.List.{flat_map, AllByRecursion, concat as whole}
+use Rattle.std.specs.Prelude.{◌≡◌, ℕ, false, cond, List, [], ◌∷◌, ◌++◌, ◌==◌}
+use Rattle.std.specs.List.{AllByRecursion, concat as whole}
 use Rattle.network.specs.declared.counts.Counts.{Counts}
+use Rattle.network.specs.Net.{Net}
 use Rattle.book.specs.State.{Tables}
-use Rattle.desk.specs.Serving.{after_line}
-use Rattle.desk.specs.Feeding.{Desk, desk, replied, fed, said, ended, said_last}
+use Rattle.desk.specs.Runs.{Then, Runs}
+use Rattle.desk.specs.Feeding.{Desk, desk, Replies, Feeds, Ends}
 
 -- a byte, and then the rest of the line that it stands in and the lines after that
 abbrev pub onto : ℕ → List (List ℕ) → List (List ℕ)
@@ -27,29 +28,17 @@ pub record SplitAtTens : Type 0 where
   pub last : (b : ℕ) (line : List ℕ) → Unbroken (b ∷ line) → lines (b ∷ line) ≡ (b ∷ line) ∷ []
   pub none : lines [] ≡ []
 
--- the replies to lines, one after the other
-abbrev pub replies : Counts → List (List ℕ) → List ℕ
-replies n ls = flat_map (replied n) ls
+-- the input comes in these chunks, and then ends
+abbrev pub Hears : Net → Counts → Desk → List (List ℕ) → List ℕ → Desk → Type 0
+Hears w n s chunks = Then (λ s. Runs (Feeds w n) s chunks) (Ends w n) s
 
--- the tables after lines, carried from each to the next
-abbrev pub after_lines : Counts → Tables → List (List ℕ) → Tables
-after_lines n t [] = t
-after_lines n t (line ∷ more) = after_lines n (after_line n line t) more
-
--- what is written where the input comes in these chunks, and then ends
-abbrev pub said_to : Counts → Desk → List (List ℕ) → List ℕ
-said_to n s [] = said_last n s
-said_to n s (chunk ∷ more) = said n s chunk ++ said_to n (fed n s chunk) more
-
--- what the desk has then
-abbrev pub after : Counts → Desk → List (List ℕ) → Desk
-after n s chunks = ended n (fold (fed n) s chunks)
+-- the lines are replied to, one after the other, and no line is being read then
+pub record ByLines (w : Net) (n : Counts) (t : Tables) (ls : List (List ℕ)) (out : List ℕ) (d : Desk) : Type 0 where
+  pub replied : Runs (Replies w n) t ls out d.tables
+  pub emptied : d.line ≡ []
 
 -- an input that comes to an empty line is answered line by line, however it is cut into chunks
 -- and however long its lines are
-pub record ByLines (n : Counts) (t : Tables) (chunks : List (List ℕ)) : Type 0 where
-  pub written : said_to n (desk t []) chunks ≡ replies n (lines (whole chunks))
-  pub left : after n (desk t []) chunks ≡ desk (after_lines n t (lines (whole chunks))) []
-
 abbrev pub AnsweredByLines : Type 0
-AnsweredByLines = (n : Counts) (t : Tables) (chunks : List (List ℕ)) → ByLines n t chunks
+AnsweredByLines =
+    (w : Net) (n : Counts) (t : Tables) (chunks : List (List ℕ)) (out : List ℕ) (d : Desk) → Hears w n (desk t []) chunks out d → ByLines w n t (lines (whole chunks)) out d

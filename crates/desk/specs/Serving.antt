@@ -1,57 +1,70 @@
--- What a line asks for, what is replied to it, and what it changes.
-use Rattle.std.specs.Prelude.{◌≡◌, ℕ, List, Ok, Err, Result}
+-- What a line asks for, what is said to it, and what it changes.
+use Rattle.std.specs.Prelude.{◌≡◌, ℕ, List, length, decimal, Ok, Err, Result}
+use Rattle.fault.specs.Judging.{first}
+use Rattle.fault.specs.Reports.{of_ticket, of_book}
 use Rattle.fault.specs.declared.book.BookFault.{BookFault}
+use Rattle.fault.specs.declared.report.Report.{Report}
 use Rattle.fault.specs.declared.ticket.TicketFault.{TicketFault}
 use Rattle.network.specs.declared.counts.Counts.{Counts}
-use Rattle.book.specs.Shutting.{shut_answer, shut_after}
+use Rattle.network.specs.declared.step.Step.{Step}
+use Rattle.network.specs.Net.{Net}
+use Rattle.cost.specs.Laws.{Ops}
+use Rattle.cost.specs.Sums.{sum_ops, fee_text}
+use Rattle.cost.specs.Fews.{few_ops, tally_text}
+use Rattle.cost.specs.Worsts.{worst_ops}
+use Rattle.slip.specs.Slips.{settings}
+use Rattle.book.specs.Answering.{scene_in, unrefused}
+use Rattle.book.specs.Changes.{frees, shuts, changed_by, path_in}
+use Rattle.book.specs.Refusing.{order_refusal, of_slip, darken_refusal, shut_refusal}
 use Rattle.book.specs.State.{Tables}
+use Rattle.orders.specs.Orders.{Ordered, lit_changes}
+use Rattle.ticket.specs.declared.CostKind.TheVariants as kind
+use Rattle.ticket.specs.declared.CostKind.{CostKind}
+use Rattle.ticket.specs.declared.Order.{Order}
 use Rattle.ticket.specs.declared.Ticket.{Ticket}
 use Rattle.ticket.specs.declared.Ticket.TheVariants as ticket
 use Rattle.ticket.specs.Tickets.{ticket_of}
-use Rattle.desk.specs.declared.refusal.DeskFault.{DeskFault}
-use Rattle.desk.specs.declared.refusal.DeskFault.TheVariants as desk
-use Rattle.desk.specs.declared.reply.Reply.{Reply}
-use Rattle.desk.specs.declared.reply.Reply.TheVariants as reply
-use Rattle.desk.specs.Replies.{of_desk}
+use Rattle.desk.specs.Replies.{lit_text, price_text, dark_text, shut_text, slip_text, refusal_text, told}
 
--- what is said of the book's answer to a shut
-abbrev pub shut_told : ℕ → Result (Unit {0}) BookFault → Result Reply DeskFault
-shut_told span (Ok done) = Ok (reply.Shut span)
-shut_told span (Err f) = Err (desk.Book f)
+-- what comes of an order by a kind of cost: P tells what is to hold of the path, and of its cost as the kind prints it
+abbrev pub OrderedBy : {V : Type 0} → Net → Counts → Tables → Order → Ops V → (V → List ℕ) → (List Step → List ℕ → Type 0) → (BookFault → Type 0) → Type 0
+OrderedBy w n x q o print P Refused =
+    Ordered o (scene_in w x) q.from q.to (order_refusal n w.counts x q.circuit q.from q.to) (λ p v. P p (print v)) Refused
 
--- the call that a ticket asks for, by what it answers and by what it changes
-abbrev pub called : Counts → Ticket → Result Reply DeskFault
-called n (ticket.Shut span) = shut_told span (shut_answer n span)
+-- the same by the kind of cost that is told
+abbrev pub ByKind : Net → Counts → Tables → Order → CostKind → (List Step → List ℕ → Type 0) → (BookFault → Type 0) → Type 0
+ByKind w n x q kind.Sum = OrderedBy w n x q sum_ops fee_text
+ByKind w n x q kind.Few = OrderedBy w n x q few_ops tally_text
+ByKind w n x q kind.Worst = OrderedBy w n x q worst_ops decimal
 
-abbrev pub called_after : Counts → Ticket → Tables → Tables
-called_after n (ticket.Shut span) t = shut_after n span t
+-- this is said, and nothing changes
+abbrev pub Only : List ℕ → List ℕ → Tables → Tables → Type 0
+Only text said x y = (said ≡ text) × (y ≡ x)
 
--- a line that is no ticket makes no call
-abbrev pub served : Counts → Result Ticket TicketFault → Result Reply DeskFault
-served n (Ok c) = called n c
-served n (Err f) = Err (desk.Ticket f)
+-- a refusal of the book is said, and nothing changes
+abbrev pub SaysNo : List ℕ → Tables → Tables → BookFault → Type 0
+SaysNo said x y f = Only (refusal_text (of_book f)) said x y
 
-abbrev pub served_after : Counts → Result Ticket TicketFault → Tables → Tables
-served_after n (Ok c) t = called_after n c t
-served_after n (Err f) t = t
+-- what is said of a ticket's call, and what stands then, where tables x stood before
+abbrev pub Called : Net → Counts → Tables → Ticket → List ℕ → Tables → Type 0
+Called w n x (ticket.Light q) said y =
+    ByKind w n x q q.kind (λ p cost. (said ≡ lit_text q.circuit cost) × (y ≡ changed_by n (lit_changes q.circuit q.from q.to p) x)) (SaysNo said x y)
+Called w n x (ticket.Quote q) said y = ByKind w n x q q.kind (λ p cost. Only (price_text cost) said x y) (SaysNo said x y)
+Called w n x (ticket.Dark c) said y =
+    (said ≡ told (darken_refusal x c) (dark_text c (length (path_in n x c)))) × (y ≡ changed_by n (unrefused (darken_refusal x c) (frees c)) x)
+Called w n x (ticket.Shut e) said y =
+    (said ≡ told (shut_refusal n e) (shut_text e)) × (y ≡ changed_by n (unrefused (shut_refusal n e) (shuts e)) x)
+Called w n x (ticket.Slip c) said y = Only (told (first (of_slip n w.counts x c)) (slip_text c (settings w (path_in n x c)))) said x y
 
--- a refusal is told by its report
-abbrev pub reply_of : Result Reply DeskFault → Reply
-reply_of (Ok r) = r
-reply_of (Err f) = reply.No (of_desk f)
+-- a line that is no ticket is refused, and makes no call
+abbrev pub Served : Net → Counts → Tables → Result Ticket TicketFault → List ℕ → Tables → Type 0
+Served w n x (Ok c) said y = Called w n x c said y
+Served w n x (Err f) said y = Only (refusal_text (of_ticket f)) said x y
 
--- the reply to a line
-abbrev pub reply_to : Counts → List ℕ → Reply
-reply_to n line = reply_of (served n (ticket_of line))
-
--- the tables after a line
-abbrev pub after_line : Counts → List ℕ → Tables → Tables
-after_line n line t = served_after n (ticket_of line) t
+-- with tables x before, this is said to a line, and tables y stand then; w is the network, and n the counts that the book was opened for
+unfoldable pub Answered : Net → Counts → Tables → List ℕ → List ℕ → Tables → Type 0
+Answered w n x line said y = Served w n x (ticket_of line) said y
 
 -- a refusal changes nothing
-abbrev pub Unchanged : Reply → Tables → Tables → Type 0
-Unchanged (reply.Shut span) t t' = Unit {0}
-Unchanged (reply.No r) t t' = t' ≡ t
-
 abbrev pub RefusalsChangeNothing : Type 0
-RefusalsChangeNothing = (n : Counts) (line : List ℕ) (t : Tables) → Unchanged (reply_to n line) t (after_line n line t)
+RefusalsChangeNothing = (w : Net) (n : Counts) (x : Tables) (line : List ℕ) (r : Report) (y : Tables) → Answered w n x line (refusal_text r) y → y ≡ x

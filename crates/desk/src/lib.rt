@@ -3,6 +3,7 @@
 
 pub mod input;
 pub mod line;
+mod ordering;
 pub mod refusal;
 pub mod reply;
-pub mod serving;
+mod serving;

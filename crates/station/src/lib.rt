@@ -38,7 +38,11 @@ fn read_plan(rt: &HostRuntime) -> io::Result<Vec<u8>> {
 }
 
 // Answers the tickets of the input, chunk by chunk.
-fn serve(rt: &HostRuntime, book: &mut Book<'_, '_, '_>) -> io::Result<()> {
+fn serve(
+    rt: &HostRuntime,
+    network: &Network<'_, '_>,
+    book: &mut Book<'_, '_, '_>,
+) -> io::Result<()> {
     let mut line = Line::new();
     let mut chunk = vec![in rt.alloc(); 0u8; CHUNK]?;
     let mut out = String::new(rt.alloc());
@@ -50,11 +54,17 @@ fn serve(rt: &HostRuntime, book: &mut Book<'_, '_, '_>) -> io::Result<()> {
         if count == 0 {
             break;
         }
-        feed(book, &mut line, &chunk.as_slice()[..count], &mut out)?;
+        feed(
+            network,
+            book,
+            &mut line,
+            &chunk.as_slice()[..count],
+            &mut out,
+        )?;
         output.write_all(out.as_bytes())?;
         out.clear();
     }
-    finish(book, &mut line, &mut out)?;
+    finish(network, book, &mut line, &mut out)?;
     output.write_all(out.as_bytes())
 }
 
@@ -69,7 +79,7 @@ fn work(rt: &HostRuntime, network: &Network<'_, '_>) -> io::Result<()> {
         spans: spans.as_mut_slice(),
     };
     let mut book = Book::open(network, 1, lent);
-    serve(rt, &mut book)
+    serve(rt, network, &mut book)
 }
 
 // Loads the plan into the two tables, or says why it is refused.

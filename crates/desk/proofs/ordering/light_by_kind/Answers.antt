@@ -1,0 +1,22 @@
+use Rattle.std.proofs.Common.{refl, decimal}
+use Rattle.network.specs.Net.{net}
+use Rattle.cost.specs.Sums.{sum_ops, fee_text}
+use Rattle.cost.specs.Fews.{few_ops, tally_text}
+use Rattle.cost.specs.Worsts.{worst_ops}
+use Rattle.book.specs.State.{tables}
+use Rattle.ticket.specs.declared.CostKind.TheVariants as kind
+use Rattle.desk.specs.declared.reply.Cost.TheVariants as cost
+use Rattle.desk.proofs.Costed.{lit_by}
+use Rattle.desk.proofs.ordering.light_by_kind.Goals as goal
+
+pub returns-in-Sum-clause-answer : goal.returns-in-Sum-clause-answer
+returns-in-Sum-clause-answer c =
+    lit_by (net c.args.network.now) c.args.book.now.extent.counts (tables c.args.book.now) c.args.order c.args.order.kind kind.Sum c.args.network.now.extent.counted c.in-Sum.is sum_ops fee_text (λ v. cost.Sum v) (λ v. refl) c.light.result c.by_sum.result _ refl c.by_sum.ensures (tables c.light.new.book) (λ z. z) c.light.ensures.answer
+
+pub returns-in-Few-clause-answer : goal.returns-in-Few-clause-answer
+returns-in-Few-clause-answer c =
+    lit_by (net c.args.network.now) c.args.book.now.extent.counts (tables c.args.book.now) c.args.order c.args.order.kind kind.Few c.args.network.now.extent.counted c.in-Few.is few_ops tally_text (λ v. cost.Few v) (λ v. refl) c.light-in-Few.result c.by_few.result _ refl c.by_few.ensures (tables c.light-in-Few.new.book) (λ z. z) c.light-in-Few.ensures.answer
+
+pub returns-in-Worst-clause-answer : goal.returns-in-Worst-clause-answer
+returns-in-Worst-clause-answer c =
+    lit_by (net c.args.network.now) c.args.book.now.extent.counts (tables c.args.book.now) c.args.order c.args.order.kind kind.Worst c.args.network.now.extent.counted c.in-Worst.is worst_ops decimal (λ v. cost.Worst v) (λ v. refl) c.light-in-Worst.result c.by_worst.result _ refl c.by_worst.ensures (tables c.light-in-Worst.new.book) (λ z. z) c.light-in-Worst.ensures.answer
