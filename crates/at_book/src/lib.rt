@@ -1,8 +1,14 @@
 //! What examples of the book begin with: the sample network's plan and tables, orders and offers in hand.
 #![tactic(auto)]
 
-ghost use Rattle.std.specs.Prelude.{◌≡◌, IfOk};
-ghost use Rattle.book.specs.State.{Kept};
+ghost use Rattle.std.specs.Prelude.{◌≡◌, length, drop, IsSome};
+ghost use Rattle.network.specs.Net.{net};
+ghost use Rattle.network.specs.Tariffs.{arrival_entries};
+ghost use Rattle.cost.specs.Sums.{sum_ops};
+ghost use Rattle.book.specs.Calls.{Offers};
+ghost use Rattle.book.specs.Refusing.{offer_refusal};
+ghost use Rattle.book.specs.State.{tables, Kept};
+ghost use Rattle.at_book.specs.Hands.{HandsOver};
 
 use book::Book;
 use book::offer::{Offer, Offered};
@@ -39,8 +45,10 @@ pub fn in_hand(
     labels: &mut [Label<Fee>],
 ) -> Result<Offer, BookFault>
     ensures kept { Kept book.old book.new }
-    ensures mark { IfOk result (λ o. o.mark ≡ book.old.mark) }
-    ensures circuit { IfOk result (λ o. o.circuit ≡ order.circuit) }
+    ensures call { HandsOver (Offers sum_ops (net network.now) book.old.extent.counts book.old.mark (tables book.old) order.circuit order.from order.to (length labels.old)) result (tables book.new) }
+    ensures refused { IsSome (offer_refusal book.old.extent.counts (net network.now).counts (tables book.old) order.circuit order.from order.to (length labels.old)) → labels.new ≡ labels.old }
+    ensures long { length labels.new ≡ length labels.old }
+    ensures beyond { drop (arrival_entries (net network.now).counts) labels.new ≡ drop (arrival_entries (net network.now).counts) labels.old }
 {
     let Order { circuit, from, to } = order;
     let Offered {

@@ -16,10 +16,10 @@ use search::label::Label;
 
 // A circuit, and from where to where it is to lead.
 #[derive(Clone, Copy)]
-pub struct Order {
-    pub circuit: u16,
-    pub from: u16,
-    pub to: u16,
+pub(crate) struct Order {
+    pub(crate) circuit: u16,
+    pub(crate) from: u16,
+    pub(crate) to: u16,
 }
 
 // An offer in hand, of the least sum, which its book does not refuse.
@@ -69,7 +69,7 @@ fn confirm(book: &mut Book<'_, '_, '_>, offer: Offer) -> u8
 
 // Offers, withdraws, offers anew and confirms; told are how many channels the first offer gave back, and
 // the circuit that is lit.
-pub fn think_again(
+pub(crate) fn think_again(
     book: &mut Book<'_, '_, '_>,
     network: &Network,
     order: Order,
