@@ -1,9 +1,11 @@
 pub mod Ends
 pub mod Laws
 pub mod Charges
+pub mod Numbers
 pub mod Sums
 pub mod Fews
 pub mod Worsts
+pub mod Numberings
 pub mod FewLaws
 pub mod SumLaws
 pub mod WorstLaws

@@ -20,12 +20,11 @@ refusal n s t room = first (judge (nat_lt s n.nodes && nat_lt t n.nodes) NoNode 
 abbrev pub IsOutcome : {V : Type 0} → Ops V → Scene → ℕ → ℕ → List (Option (Known V)) → Option (Found V) → Type 0
 IsOutcome o g s t table r = MatchOption r (HasNone g s t) (λ f. IsCheapest o g s t (path_to g.net.counts table f.end) f.cost)
 
--- the same, as it is told: 29 where there is none
-abbrev pub IsFound : {V : Type 0} → Ops V → Scene → ℕ → ℕ → List (Option (Known V)) → Result (Found V) BookFault → Type 0
-IsFound o g s t table r =
-    MatchResult r (λ f. IsCheapest o g s t (path_to g.net.counts table f.end) f.cost) (λ e. (e ≡ NoPath) × HasNone g s t)
+-- what whoever seeks a semilightpath from s to t is told: the refusal that is due, if any; else what P holds of, or 29 where there is none
+abbrev pub Sought : {A : Type 0} → Scene → ℕ → ℕ → (A → Type 0) → Option BookFault → Result A BookFault → Type 0
+Sought g s t P (Some f) r = r ≡ Err f
+Sought g s t P None r = MatchResult r P (λ f. (f ≡ NoPath) × HasNone g s t)
 
--- the refusal that is due, or what is found
+-- what a search tells: a cheapest one, along which the labels lead
 abbrev pub Answers : {V : Type 0} → Ops V → Scene → ℕ → ℕ → List (Option (Known V)) → Option BookFault → Result (Found V) BookFault → Type 0
-Answers o g s t table (Some e) r = r ≡ Err e
-Answers o g s t table None r = IsFound o g s t table r
+Answers o g s t table due r = Sought g s t (λ f. IsCheapest o g s t (path_to g.net.counts table f.end) f.cost) due r

@@ -14,6 +14,10 @@ pub record IsCheapest {V : Type 0} (o : Ops V) (g : Scene) (s t : ℕ) (p : List
   pub priced : cost o g p ≡ v
   pub least : (q : List Step) → IsSemilightpath g s t q → o.at_most v (cost o g q) ≡ true
 
+-- v is the least cost from s to t: what a cheapest semilightpath costs
+abbrev pub IsLeastCost : {V : Type 0} → Ops V → Scene → ℕ → ℕ → V → Type 0
+IsLeastCost o g s t v = (p : List Step) × IsCheapest o g s t p v
+
 -- no semilightpath leads from s to t
 abbrev pub HasNone : Scene → ℕ → ℕ → Type 0
 HasNone g s t = (q : List Step) → IsSemilightpath g s t q → ⊥

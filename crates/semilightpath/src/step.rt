@@ -81,7 +81,7 @@ fn converted<K: Kind>(
 }
 
 // The value after what one more step charges, whether or not a path can go on by it.
-pub(crate) fn priced<K: Kind, F: Fares>(
+pub fn priced<K: Kind, F: Fares>(
     kind: &K,
     network: &Network,
     fares: &F,
