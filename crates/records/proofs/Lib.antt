@@ -6,3 +6,4 @@ pub mod Replaced
 pub mod Kept
 pub mod Giving
 pub mod Undone
+pub mod Held

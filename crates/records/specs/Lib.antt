@@ -1,4 +1,5 @@
 pub mod Chains
 pub mod Sound
 pub mod Changes
+pub mod Held
 pub mod Standing
