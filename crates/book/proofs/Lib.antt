@@ -4,3 +4,4 @@ pub mod Offered
 pub mod Ordered
 pub mod Slipped
 pub mod Making
+pub mod Numbered

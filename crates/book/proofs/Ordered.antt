@@ -18,7 +18,7 @@ use Rattle.records.specs.Chains.{circuit_count}
 use Rattle.search.specs.declared.label.Known.{Known}
 use Rattle.search.specs.declared.found.Found.{Found}
 use Rattle.search.specs.Labels.{path_to}
-use Rattle.search.specs.Answers.{refusal, IsFound, Answers}
+use Rattle.search.specs.Answers.{refusal, Answers}
 use Rattle.laying.proofs.Short.{path_short}
 use Rattle.book.specs.declared.offer.Offered.{Offered}
 use Rattle.book.specs.State.{Tables}
@@ -104,7 +104,7 @@ offer_late {V} o g mark c s t p m n x room j u table k f f' r is e a w h q =
 
     go : (z : Option BookFault) → Answers o g s t table z k → OfferAnswers o g mark c s t p z r
     go (Some y) a = q ∙ ap Err (h ∙ same_err f y (sym w ∙ a))
-    go None a = subst (OfferAnswers o g mark c s t p None) (sym (q ∙ ap Err h)) (subst (λ i. IsFound o g s t table i) w a)
+    go None a = subst (OfferAnswers o g mark c s t p None) (sym (q ∙ ap Err h)) (subst (λ i. Answers o g s t table None i) w a)
 
 -- and a path that it finds can be taken
 pub offer_can : {V : Type 0} (o : Ops V) (w : Net) (c s t : ℕ) (m : Counts) (x : Tables) (room : ℕ) (j : Result (Unit {0}) BookFault) (u : Unit {0}) (table : List (Option (Known V))) (k : Result (Found V) BookFault) (found : Found V)
@@ -121,7 +121,7 @@ offer_can {V} o w c s t m x room j u table k found is e a q = go (refusal w.coun
         ok_err i l e = cc
     go None a =
         subst (λ n. CanTake n x c (path_to n table found.end)) (sym sound.counts)
-        (cheapest_can o w x c s t (path_to w.counts table found.end) found.cost sound.known sound.free (path_short w.counts table found.end) (subst (λ i. IsFound o (scene_in w x) s t table i) q a))
+        (cheapest_can o w x c s t (path_to w.counts table found.end) found.cost sound.known sound.free (path_short w.counts table found.end) (subst (λ i. Answers o (scene_in w x) s t table None i) q a))
 
 -- an order that is refused makes no change
 pub no_offer : {V : Type 0} (n : Counts) (c s t : ℕ) (p : List Step) (x : Tables) (r : Result (Offered V) BookFault) (f : BookFault) → r ≡ Err f → Makes n (offer_change c s t p r) x x
@@ -147,7 +147,7 @@ offer_made {V} o w m mark c s t room x y j u table k found q is e a f made path 
     go : (z : Option BookFault) → Answers o (scene_in w x) s t table z k → OfferAnswers o (scene_in w x) mark c s t (path_in m y c) z (Ok q)
     go (Some h) b = absurd (ok_err found h (sym f ∙ b))
     go None b =
-        let best = subst (λ i. IsFound o (scene_in w x) s t table i) f b in
+        let best = subst (λ i. Answers o (scene_in w x) s t table None i) f b in
         record {
           cheapest = subst (λ v. IsCheapest o (scene_in w x) s t (path_in m y c) v) (sym cost) (subst (λ p. IsCheapest o (scene_in w x) s t p found.cost) (ap (λ n. path_to n table found.end) (sym counts) ∙ sym path) best);
           steps = steps ∙ ap length (sym path);

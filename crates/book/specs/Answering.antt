@@ -1,18 +1,19 @@
 -- Which answers of the calls on circuits are right, and what change each makes.
-use Rattle.std.specs.Prelude.{◌≡◌, ℕ, List, [], ◌∷◌, length, Some, None, Ok, Err, Option, Result, MatchResult}
+use Rattle.std.specs.Prelude.{◌≡◌, ℕ, List, [], ◌∷◌, length, Some, None, Ok, Err, Option, Result}
 use Rattle.fault.specs.declared.book.BookFault.{BookFault}
-use Rattle.fault.specs.declared.book.BookFault.TheVariants.{NoPath}
 use Rattle.network.specs.declared.step.Step.{Step}
 use Rattle.network.specs.Net.{Net}
 use Rattle.cost.specs.Laws.{Ops}
 use Rattle.semilightpath.specs.Scenes.{Scene, scene}
-use Rattle.semilightpath.specs.Cheapest.{IsCheapest, HasNone}
+use Rattle.semilightpath.specs.Cheapest.{IsCheapest}
+use Rattle.search.specs.Answers.{Sought}
 use Rattle.moment.specs.Usable.{fare_at}
 use Rattle.records.specs.declared.circuit.Circuit.{Circuit}
 use Rattle.records.specs.declared.circuit.Circuit.TheVariants as circuit
 use Rattle.records.specs.declared.circuit.Route.{Route}
 use Rattle.slip.specs.declared.setting.Setting.{Setting}
 use Rattle.slip.specs.Slips.{slip}
+use Rattle.pricing.specs.Pricing.{with_shut}
 use Rattle.book.specs.declared.offer.Offer.{Offer}
 use Rattle.book.specs.declared.offer.Offered.{Offered}
 use Rattle.book.specs.declared.status.Status.{Status}
@@ -32,14 +33,17 @@ pub record IsOffer {V : Type 0} (o : Ops V) (g : Scene) (m c s t : ℕ) (p : Lis
   pub mark : r.offer.mark ≡ m
   pub circuit : r.offer.circuit ≡ c
 
--- the refusal that is due, else path p is offered, or there is none
+-- what is told of an offer: that of path p
 abbrev pub OfferAnswers : {V : Type 0} → Ops V → Scene → ℕ → ℕ → ℕ → ℕ → List Step → Option BookFault → Result (Offered V) BookFault → Type 0
-OfferAnswers o g m c s t p (Some f) r = r ≡ Err f
-OfferAnswers o g m c s t p None r = MatchResult r (IsOffer o g m c s t p) (λ f. (f ≡ NoPath) × HasNone g s t)
+OfferAnswers o g m c s t p due r = Sought g s t (IsOffer o g m c s t p) due r
 
 abbrev pub offer_change : {V : Type 0} → ℕ → ℕ → ℕ → List Step → Result (Offered V) BookFault → List Change
 offer_change c s t p (Ok r) = takes c s t p ∷ []
 offer_change c s t p (Err f) = []
+
+-- a network with what could be used of it if span e were shut
+abbrev pub scene_without : Net → Tables → ℕ → Scene
+scene_without w x e = scene w (fare_at w x.channels (with_shut e x.spans))
 
 -- what an offer in hand is spent for, or the offer itself handed back with the refusal
 abbrev pub spent : {A : Type 0} → Option BookFault → Offer → A → Result A (BookFault × Offer)

@@ -3,5 +3,6 @@ pub mod Changes
 pub mod Refusing
 pub mod Taking
 pub mod Answering
+pub mod Numbered
 pub mod Calls
 pub mod Opening

@@ -4,6 +4,7 @@ use Rattle.fault.specs.Judging.{Judgement, judge, first}
 use Rattle.fault.specs.declared.book.BookFault.{BookFault}
 use Rattle.fault.specs.declared.book.BookFault.TheVariants as fault
 use Rattle.network.specs.declared.counts.Counts.{Counts}
+use Rattle.network.specs.declared.step.Step.{Step}
 use Rattle.network.specs.Tariffs.{arrival_entries}
 use Rattle.records.specs.declared.circuit.Circuit.{Circuit}
 use Rattle.records.specs.declared.circuit.Circuit.TheVariants as circuit
@@ -44,35 +45,72 @@ of_circuit c = judge (nat_lt c circuit_count) fault.NoCircuit
 abbrev pub of_state : Bool → Judgement BookFault
 of_state b = judge b fault.CircuitState
 
--- an order, over a network with counts n, for circuit c from s to t
+-- s and t are two nodes of the network; there is such a span; the search's table has room
+abbrev pub of_ends : Counts → ℕ → ℕ → List (Judgement BookFault)
+of_ends n s t = judge (nat_lt s n.nodes && nat_lt t n.nodes) fault.NoNode ∷ judge (not (s == t)) fault.SameNode ∷ []
+
+abbrev pub of_span : Counts → ℕ → Judgement BookFault
+of_span m e = judge (nat_lt e m.spans) fault.NoSpan
+
+abbrev pub of_room : Counts → ℕ → Judgement BookFault
+of_room n room = judge (nat_le (arrival_entries n) room) fault.WorkTable
+
+-- an order, over a network with counts n, for circuit c, which is free or not, from s to t
+abbrev pub of_ordered : Counts → Counts → Bool → ℕ → ℕ → ℕ → List (Judgement BookFault)
+of_ordered m n free c s t = of_network m n ∷ of_circuit c ∷ of_state free ∷ of_ends n s t
+
 abbrev pub of_order : Counts → Counts → Tables → ℕ → ℕ → ℕ → List (Judgement BookFault)
-of_order m n x c s t =
-    of_network m n ∷ of_circuit c ∷ of_state (is_free (circuit_in x c)) ∷ judge (nat_lt s n.nodes && nat_lt t n.nodes) fault.NoNode ∷ judge (not (s == t)) fault.SameNode ∷ []
+of_order m n x c s t = of_ordered m n (is_free (circuit_in x c)) c s t
 
 abbrev pub order_refusal : Counts → Counts → Tables → ℕ → ℕ → ℕ → Option BookFault
 order_refusal m n x c s t = first (of_order m n x c s t)
 
 -- an offer, for which the search's table has room for so many labels
 abbrev pub offer_refusal : Counts → Counts → Tables → ℕ → ℕ → ℕ → ℕ → Option BookFault
-offer_refusal m n x c s t room = first (of_order m n x c s t ++ judge (nat_le (arrival_entries n) room) fault.WorkTable ∷ [])
+offer_refusal m n x c s t room = first (of_order m n x c s t ++ of_room n room ∷ [])
 
--- an offer in hand is spent, at a book with this mark
+-- a trial from s to t with span e shut
+abbrev pub of_trial : Counts → Counts → ℕ → ℕ → ℕ → List (Judgement BookFault)
+of_trial m n s t e = of_network m n ∷ (of_ends n s t ++ of_span m e ∷ [])
+
+abbrev pub trial_refusal : Counts → Counts → ℕ → ℕ → ℕ → ℕ → Option BookFault
+trial_refusal m n s t e room = first (of_trial m n s t e ++ of_room n room ∷ [])
+
+-- an offer in hand is spent, whose circuit is offered or not, at a book with this mark
+abbrev pub of_spending : ℕ → Bool → Offer → List (Judgement BookFault)
+of_spending mark offered o = judge (o.mark == mark) fault.OtherBook ∷ of_state offered ∷ []
+
 abbrev pub spend_refusal : ℕ → Tables → Offer → Option BookFault
-spend_refusal mark x o = first (judge (o.mark == mark) fault.OtherBook ∷ of_state (is_offered (circuit_in x o.circuit)) ∷ [])
+spend_refusal mark x o = first (of_spending mark (is_offered (circuit_in x o.circuit)) o)
+
+-- circuit c, which is lit or not, is darkened
+abbrev pub of_darkening : Bool → ℕ → List (Judgement BookFault)
+of_darkening lit c = of_circuit c ∷ of_state lit ∷ []
 
 abbrev pub darken_refusal : Tables → ℕ → Option BookFault
-darken_refusal x c = first (of_circuit c ∷ of_state (is_lit (circuit_in x c)) ∷ [])
+darken_refusal x c = first (of_darkening (is_lit (circuit_in x c)) c)
 
 abbrev pub look_refusal : ℕ → Option BookFault
 look_refusal c = first (of_circuit c ∷ [])
 
+-- circuit c, which stands or not
+abbrev pub of_path : Counts → Counts → Bool → ℕ → List (Judgement BookFault)
+of_path m n stands c = of_network m n ∷ of_circuit c ∷ of_state stands ∷ []
+
 -- a slip of circuit c
 abbrev pub of_slip : Counts → Counts → Tables → ℕ → List (Judgement BookFault)
-of_slip m n x c = of_network m n ∷ of_circuit c ∷ of_state (is_standing (circuit_in x c)) ∷ []
+of_slip m n x c = of_path m n (is_standing (circuit_in x c)) c
 
--- into a buffer that has room for so many settings
+-- what its path costs
+abbrev pub reckon_refusal : Counts → Counts → Tables → ℕ → Option BookFault
+reckon_refusal m n x c = first (of_slip m n x c)
+
+-- into a buffer that has room for so many settings: one more is needed than the path has steps
+abbrev pub of_buffer : List Step → ℕ → Judgement BookFault
+of_buffer p room = judge (nat_le (length p + 1) room) fault.SlipBuffer
+
 abbrev pub slip_refusal : Counts → Counts → Tables → ℕ → ℕ → Option BookFault
-slip_refusal m n x c room = first (of_slip m n x c ++ judge (nat_le (length (path_in m x c) + 1) room) fault.SlipBuffer ∷ [])
+slip_refusal m n x c room = first (of_slip m n x c ++ of_buffer (path_in m x c) room ∷ [])
 
 abbrev pub shut_refusal : Counts → ℕ → Option BookFault
-shut_refusal m e = first (judge (nat_lt e m.spans) fault.NoSpan ∷ [])
+shut_refusal m e = first (of_span m e ∷ [])

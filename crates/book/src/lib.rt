@@ -16,6 +16,7 @@ mod opening;
 mod slipping;
 mod spending;
 pub mod status;
+mod trying;
 
 use lent::Lent;
 use network::extent::Extent;

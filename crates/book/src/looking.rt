@@ -1,8 +1,5 @@
 ghost use Rattle.std.specs.Prelude.{◌≡◌};
-ghost use Rattle.fault.specs.Judging.{unless};
-ghost use Rattle.book.specs.Answering.{seen};
-ghost use Rattle.book.specs.Changes.{circuit_in, path_in};
-ghost use Rattle.book.specs.Refusing.{look_refusal};
+ghost use Rattle.book.specs.Calls.{Looks};
 ghost use Rattle.book.specs.State.{tables};
 
 use super::Book;
@@ -26,7 +23,7 @@ impl Book<'_, '_, '_> {
     // Looks at a circuit: how it stands, from where to where and by how many steps; nothing where it is
     // free.
     pub fn look(&self, circuit: u16) -> Result<Option<Status>, BookFault>
-        ensures { result ≡ unless (look_refusal circuit) (seen (circuit_in (tables self.now) circuit) (path_in self.now.extent.counts (tables self.now) circuit)) }
+        ensures { Looks self.now.extent.counts (tables self.now) circuit result }
     {
         let status = match self.record(circuit)? {
             Circuit::Free => None,

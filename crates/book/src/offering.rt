@@ -2,12 +2,14 @@ ghost use Rattle.std.specs.Prelude.{◌≡◌, [], ◌∷◌, length, drop, IsSo
 ghost use Rattle.fault.specs.Judging.{unless};
 ghost use Rattle.network.specs.Net.{net};
 ghost use Rattle.network.specs.Tariffs.{arrival_entries};
+ghost use Rattle.cost.specs.Numbers.{Numbering, in_numbers};
 ghost use Rattle.search.specs.Answers.{Answers, refusal};
 ghost use Rattle.search.specs.Labels.{path_to};
 ghost use Rattle.book.specs.Taking.{CanTake};
 ghost use Rattle.book.specs.Answering.{scene_in};
 ghost use Rattle.book.specs.Calls.{Offers};
 ghost use Rattle.book.specs.Changes.{path_in, takes, Makes};
+ghost use Rattle.book.specs.Numbered.{offer_in_numbers};
 ghost use Rattle.book.specs.Refusing.{offer_refusal, order_refusal};
 ghost use Rattle.book.specs.State.{tables, Kept};
 
@@ -102,6 +104,7 @@ impl Book<'_, '_, '_> {
     ) -> Result<Offered<K::Value>, BookFault>
         ensures kept { Kept self.old self.new }
         ensures call { Offers K.ops (net network.now) self.old.extent.counts self.old.mark (tables self.old) circuit from to (length labels.old) result (tables self.new) }
+        ensures numbered { (c : Numbering K.Value) → Offers (in_numbers c K.ops) (net network.now) self.old.extent.counts self.old.mark (tables self.old) circuit from to (length labels.old) (offer_in_numbers c result) (tables self.new) }
         ensures refused { IsSome (offer_refusal self.old.extent.counts (net network.now).counts (tables self.old) circuit from to (length labels.old)) → labels.new ≡ labels.old }
         ensures long { length labels.new ≡ length labels.old }
         ensures beyond { drop (arrival_entries (net network.now).counts) labels.new ≡ drop (arrival_entries (net network.now).counts) labels.old }

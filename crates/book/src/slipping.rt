@@ -3,7 +3,7 @@ ghost use Rattle.fault.specs.Judging.{unless};
 ghost use Rattle.network.specs.Net.{net};
 ghost use Rattle.records.specs.Chains.{route_of};
 ghost use Rattle.slip.specs.Slips.{SettingsLead, Tells};
-ghost use Rattle.book.specs.Answering.{slipped};
+ghost use Rattle.book.specs.Calls.{Slips};
 ghost use Rattle.book.specs.Changes.{path_in};
 ghost use Rattle.book.specs.Refusing.{slip_refusal};
 ghost use Rattle.book.specs.State.{tables};
@@ -43,8 +43,7 @@ impl Book<'_, '_, '_> {
         circuit: u16,
         buffer: &mut [Setting],
     ) -> Result<usize, BookFault>
-        ensures answer { result ≡ unless (slip_refusal self.now.extent.counts (net network.now).counts (tables self.now) circuit (length buffer.old)) (length (path_in self.now.extent.counts (tables self.now) circuit) + 1) }
-        ensures buffer { buffer.new ≡ slipped (slip_refusal self.now.extent.counts (net network.now).counts (tables self.now) circuit (length buffer.old)) (net network.now) (path_in self.now.extent.counts (tables self.now) circuit) buffer.old }
+        ensures call { Slips (net network.now) self.now.extent.counts (tables self.now) circuit buffer.old result buffer.new }
         ensures tells { OnOk result (Tells (net network.now) (path_in self.now.extent.counts (tables self.now) circuit) buffer.new) }
         ensures lead { SettingsLead (net network.now) (path_in self.now.extent.counts (tables self.now) circuit) }
     {

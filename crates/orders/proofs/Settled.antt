@@ -1,5 +1,7 @@
 -- An offer that is settled at once.
-use Rattle.std.proofs.Common.{[], ◌∷◌, ◌≡◌, ℕ, true, List, None, Some, Ok, Err, Option, Result, refl, sym, ap, ◌∙◌, subst, slice_set}
+use Rattle.std.proofs.Common.{[], ◌∷◌, ◌≡◌, ℕ, ◌<◌, ◌≤◌, eqb, true, List, length, None, Some, Ok, Err, Option, Result, refl, sym, ap, ◌∙◌, subst, slice_set, arith}
+use Rattle.std.proofs.lemmas.Bool.{cond-true, eq-eqb}
+use Rattle.std.proofs.lemmas.Grind.{get_or-set_at}
 use Rattle.fault.specs.declared.book.BookFault.{BookFault}
 use Rattle.network.specs.declared.counts.Counts.{Counts}
 use Rattle.network.specs.declared.step.Step.{Step}
@@ -10,14 +12,14 @@ use Rattle.semilightpath.specs.Scenes.{Scene}
 use Rattle.semilightpath.specs.Paths.{begin, IsUsable}
 use Rattle.semilightpath.specs.Cheapest.{IsCheapest}
 use Rattle.records.specs.declared.circuit.Circuit.TheVariants as circuit
-use Rattle.records.specs.Chains.{channel_at}
+use Rattle.records.specs.Chains.{channel_at, circuit_count}
 use Rattle.records.specs.Changes.{taken, given_back, route_along}
 use Rattle.records.proofs.Undone.{given_taken, freed_circuit}
 use Rattle.book.specs.declared.offer.Offer.{Offer}
 use Rattle.book.specs.declared.offer.Offered.{Offered}
 use Rattle.book.specs.State.{Tables, lent}
-use Rattle.book.specs.Changes.{takes, lights, frees, changed, changed_by, path_in, Makes}
-use Rattle.book.specs.Refusing.{offer_refusal}
+use Rattle.book.specs.Changes.{takes, lights, frees, changed, changed_by, circuit_in, path_in, Makes}
+use Rattle.book.specs.Refusing.{is_offered, offer_refusal, spend_refusal}
 use Rattle.book.specs.Answering.{scene_in, IsOffer, OfferAnswers, offer_change, spent, unrefused}
 use Rattle.book.proofs.Making.{makes_then}
 use Rattle.book.proofs.Offered.{usable_on, usable_free}
@@ -51,6 +53,24 @@ made_order o g m c s t p None r q a e = (refl, subst (OfferAnswers o g m c s t p
 pub was_spent : {A : Type 0} (z : Option BookFault) (o : Offer) (x y : A) (r : Result A (BookFault × Offer)) → r ≡ spent z o x → r ≡ Ok y → z ≡ None
 was_spent None o x y r e f = refl
 was_spent {A} (Some h) o x y r e f = absurd (ok_err y (h, o) (sym f ∙ e))
+  where
+    ok_err : (i : A) (l : BookFault × Offer) → Ok i ≡ Err l → ⊥
+    ok_err i l e = cc
+
+-- what an offer just made is spent for is not refused
+pub not_refused : {V : Type 0} (n : Counts) (m m' c s t : ℕ) (x y : Tables) (p : List Step) (r : Result (Offered V) BookFault) (q : Offered V) → r ≡ Ok q → y ≡ changed_by n (offer_change c s t p r) x → m' ≡ m → q.offer.mark ≡ m → q.offer.circuit ≡ c → q.offer.circuit < circuit_count → circuit_count ≤ length x.circuits
+    → spend_refusal m' y q.offer ≡ None
+not_refused n m m' c s t x y p r q made took same mark its known rows =
+    cond-true (eqb q.offer.mark m') _ _ (eq-eqb q.offer.mark m' (mark ∙ sym same)) ∙ cond-true (is_offered (circuit_in y q.offer.circuit)) _ _ (ap is_offered there)
+  where
+    there : circuit_in y q.offer.circuit ≡ circuit.Offered (route_along s t p)
+    there =
+        ap (λ i. circuit_in i q.offer.circuit) (took ∙ ap (λ i. changed_by n (offer_change c s t p i) x) made)
+        ∙ get_or-set_at x.circuits c q.offer.circuit (circuit.Offered (route_along s t p)) circuit.Free its (omega (arith, known, rows, its))
+
+-- so it is not answered with a refusal
+pub never_back : {A : Type 0} (z : Option BookFault) (o : Offer) (x : A) (r : Result A (BookFault × Offer)) (f : BookFault × Offer) → r ≡ spent z o x → z ≡ None → r ≡ Err f → ⊥
+never_back {A} z o x r f e none is = ok_err x f (sym (e ∙ ap (λ i. spent i o x) none) ∙ is)
   where
     ok_err : (i : A) (l : BookFault × Offer) → Ok i ≡ Err l → ⊥
     ok_err i l e = cc

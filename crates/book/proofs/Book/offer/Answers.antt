@@ -6,6 +6,7 @@ use Rattle.book.specs.State.{Tables, tables}
 use Rattle.book.specs.Answering.{scene_in}
 use Rattle.book.specs.Changes.{path_in}
 use Rattle.book.proofs.Ordered.{answers_at, no_offer, offer_early, offer_late, offer_made, offer_can}
+use Rattle.book.proofs.Numbered.{offers_numbered}
 use Rattle.book.proofs.Book.offer.Goals as goal
 
 pub returns-in_err-judge_order-clause-call : goal.returns-in_err-judge_order-clause-call
@@ -42,6 +43,15 @@ returns-clause-call g c =
     c.judge_order.ensures c.in_ok-judge_order.was
     (answers_at g.K.Kind.ops (scene_in w x) w.counts (length c.args.labels.now) _ _ _ _ c.find.new.labels c.find.result c.from.ensures c.from-2.ensures c.find.ensures.answer)
     c.in_ok-found.was c.take-steps.ensures.change c.take-steps.ensures.path c.take-steps.ensures.steps refl c.take-steps.ensures.kept.mark refl
+
+pub returns-in_err-judge_order-clause-numbered : goal.returns-in_err-judge_order-clause-numbered
+returns-in_err-judge_order-clause-numbered g c = λ k. offers_numbered k g.K.Kind.ops _ _ _ _ _ _ _ _ _ _ (returns-in_err-judge_order-clause-call g c)
+
+pub returns-in_err-found-clause-numbered : goal.returns-in_err-found-clause-numbered
+returns-in_err-found-clause-numbered g c = λ k. offers_numbered k g.K.Kind.ops _ _ _ _ _ _ _ _ _ _ (returns-in_err-found-clause-call g c)
+
+pub returns-clause-numbered : goal.returns-clause-numbered
+returns-clause-numbered g c = λ k. offers_numbered k g.K.Kind.ops _ _ _ _ _ _ _ _ _ _ (returns-clause-call g c)
 
 pub take-steps-requires : goal.take-steps-requires
 take-steps-requires g c =
