@@ -4,6 +4,7 @@
 ghost use Rattle.std.specs.Prelude.{◌≤◌, length};
 ghost use Rattle.desk.specs.Inputs.{AnsweredByLines};
 
+use account::open;
 use book::Book;
 use book::lent::Lent;
 use desk::input::{feed, finish};
@@ -78,7 +79,7 @@ fn work(rt: &HostRuntime, network: &Network<'_, '_>) -> io::Result<()> {
         circuits: circuits.as_mut_slice(),
         spans: spans.as_mut_slice(),
     };
-    let mut book = Book::open(network, 1, lent);
+    let mut book = open(network, 1, lent);
     serve(rt, network, &mut book)
 }
 

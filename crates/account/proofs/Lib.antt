@@ -1,0 +1,12 @@
+pub mod Standing
+pub mod Holding
+pub mod Fares
+pub mod Dues
+pub mod Right
+pub mod Made
+pub mod Lighting
+pub mod Ledger
+pub mod Counting
+pub mod Nones
+pub mod Runs
+pub mod Calls

@@ -1,0 +1,5 @@
+pub mod Events
+pub mod Accounts
+pub mod Due
+pub mod Law
+pub mod Going
