@@ -9,6 +9,7 @@ use Rattle.ticket.specs.Lines.{Token, number, name, place, value, of_length, of_
 use Rattle.ticket.specs.declared.CostKind.{CostKind}
 use Rattle.ticket.specs.declared.CostKind.TheVariants as kind
 use Rattle.ticket.specs.declared.Order.{Order}
+use Rattle.ticket.specs.declared.Trial.{Trial}
 use Rattle.ticket.specs.declared.Ticket.{Ticket}
 use Rattle.ticket.specs.declared.Ticket.TheVariants as ticket
 use Rattle.ticket.specs.declared.verb.Verb.{Verb}
@@ -27,6 +28,7 @@ abbrev pub verbs : List (List ℕ × Verb)
 verbs =
     (codes "LIGHT", verb.Light) ∷
     (codes "QUOTE", verb.Quote) ∷
+    (codes "TRIAL", verb.Trial) ∷
     (codes "DARK", verb.Dark) ∷
     (codes "SHUT", verb.Shut) ∷
     (codes "SLIP", verb.Slip) ∷ []
@@ -45,6 +47,7 @@ verb_of (name at w) = ok_or (named verbs w) (fault.Verb at)
 abbrev pub wants : Verb → ℕ
 wants verb.Light = 4
 wants verb.Quote = 4
+wants verb.Trial = 4
 wants verb.Dark = 1
 wants verb.Shut = 1
 wants verb.Slip = 1
@@ -66,19 +69,28 @@ beyond n (t ∷ ts) = place t
 abbrev pub nth : List Token → ℕ → Token
 nth ts k = slice_index_or ts k (name 0 [])
 
--- the order that four words make, judged from left to right
-abbrev pub order_of : List Token → Result Order TicketFault
-order_of ts =
-    then (number_of (nth ts 0)) (λ circuit.
-    then (number_of (nth ts 1)) (λ from.
-    then (number_of (nth ts 2)) (λ to.
+-- three numbers and a kind of cost, judged from left to right
+abbrev pub numbers_and_kind : List Token → Result (ℕ × ℕ × ℕ × CostKind) TicketFault
+numbers_and_kind ts =
+    then (number_of (nth ts 0)) (λ a.
+    then (number_of (nth ts 1)) (λ b.
+    then (number_of (nth ts 2)) (λ c.
     then (kind_of (nth ts 3)) (λ kind.
-    Ok (record { circuit = circuit; from = from; to = to; kind = kind })))))
+    Ok (a, b, c, kind)))))
+
+-- the order that four words make
+abbrev pub order_of : List Token → Result Order TicketFault
+order_of ts = then (numbers_and_kind ts) (λ (circuit, from, to, kind). Ok (record { circuit = circuit; from = from; to = to; kind = kind }))
+
+-- the trial that they make
+abbrev pub trial_of : List Token → Result Trial TicketFault
+trial_of ts = then (numbers_and_kind ts) (λ (from, to, span, kind). Ok (record { from = from; to = to; span = span; kind = kind }))
 
 -- what a verb says with as many words as it wants
 abbrev pub told : Verb → List Token → Result Ticket TicketFault
 told verb.Light ts = then (order_of ts) (λ o. Ok (ticket.Light o))
 told verb.Quote ts = then (order_of ts) (λ o. Ok (ticket.Quote o))
+told verb.Trial ts = then (trial_of ts) (λ t. Ok (ticket.Trial t))
 told verb.Dark ts = then (number_of (nth ts 0)) (λ c. Ok (ticket.Dark c))
 told verb.Shut ts = then (number_of (nth ts 0)) (λ s. Ok (ticket.Shut s))
 told verb.Slip ts = then (number_of (nth ts 0)) (λ c. Ok (ticket.Slip c))

@@ -32,11 +32,21 @@ pub struct Order {
     pub kind: CostKind,
 }
 
+// A trial: the least cost between two nodes with one span counted as shut, by a kind of cost.
+#[derive(Clone, Copy, PartialEq, Eq, Debug)]
+pub struct Trial {
+    pub from: u16,
+    pub to: u16,
+    pub span: u16,
+    pub kind: CostKind,
+}
+
 // What a ticket asks for.
 #[derive(Clone, Copy, PartialEq, Eq, Debug)]
 pub enum Ticket {
     Light(Order),
     Quote(Order),
+    Trial(Trial),
     Dark { circuit: u16 },
     Shut { span: u16 },
     Slip { circuit: u16 },

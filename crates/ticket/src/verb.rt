@@ -10,6 +10,7 @@ use fault::ticket::TicketFault;
 pub(crate) enum Verb {
     Light,
     Quote,
+    Trial,
     Dark,
     Shut,
     Slip,
@@ -21,7 +22,7 @@ impl Verb {
         ensures { result ≡ wants self }
     {
         match self {
-            Verb::Light | Verb::Quote => 4,
+            Verb::Light | Verb::Quote | Verb::Trial => 4,
             Verb::Dark | Verb::Shut | Verb::Slip => 1,
         }
     }
@@ -40,6 +41,7 @@ impl TryFrom<Word<'_>> for Verb {
         match part.bytes {
             b"LIGHT" => Ok(Verb::Light),
             b"QUOTE" => Ok(Verb::Quote),
+            b"TRIAL" => Ok(Verb::Trial),
             b"DARK" => Ok(Verb::Dark),
             b"SHUT" => Ok(Verb::Shut),
             b"SLIP" => Ok(Verb::Slip),

@@ -5,12 +5,12 @@ ghost use Rattle.fault.specs.declared.ticket.TicketFault.TheVariants as ticket_f
 ghost use Rattle.fault.specs.declared.ticket.WordFault.TheVariants as word_fault;
 ghost use Rattle.arrayvec.specs.ArrayVec.{array_vec_len};
 ghost use Rattle.ticket.specs.Lines.{part, small, too_large, token_of, word_from, of_line, words};
-ghost use Rattle.ticket.specs.Tickets.{beyond, kind_of, meaning, nth, number_of, order_of};
+ghost use Rattle.ticket.specs.Tickets.{beyond, kind_of, meaning, nth, number_of, numbers_and_kind, order_of, trial_of};
 
 use super::spot::Spot;
 use super::verb::Verb;
 use super::word::{Word, number, of_word};
-use super::{CostKind, Order, Ticket};
+use super::{CostKind, Order, Ticket, Trial};
 use arrayvec::ArrayVec;
 use fault::ticket::{TicketFault, WordFault};
 
@@ -72,6 +72,7 @@ impl<'a> Words<'a> {
         match verb {
             Verb::Light => Ok(Ticket::Light(self.order()?)),
             Verb::Quote => Ok(Ticket::Quote(self.order()?)),
+            Verb::Trial => Ok(Ticket::Trial(self.trial()?)),
             Verb::Dark => Ok(Ticket::Dark {
                 circuit: self.number(1)?,
             }),
@@ -89,12 +90,40 @@ impl<'a> Words<'a> {
         requires { length self.now.held.items ≡ 5 }
         ensures { result ≡ order_of (drop 1 (map token_of self.now.held.items)) }
     {
+        let (circuit, from, to, kind) = self.numbers_and_kind()?;
         Ok(Order {
-            circuit: self.number(1)?,
-            from: self.number(2)?,
-            to: self.number(3)?,
-            kind: self.kind(4)?,
+            circuit,
+            from,
+            to,
+            kind,
         })
+    }
+
+    // The trial that they make.
+    fn trial(&self) -> Result<Trial, TicketFault>
+        requires { length self.now.held.items ≡ 5 }
+        ensures { result ≡ trial_of (drop 1 (map token_of self.now.held.items)) }
+    {
+        let (from, to, span, kind) = self.numbers_and_kind()?;
+        Ok(Trial {
+            from,
+            to,
+            span,
+            kind,
+        })
+    }
+
+    // The three numbers and the kind of cost after the verb.
+    fn numbers_and_kind(&self) -> Result<(u16, u16, u16, CostKind), TicketFault>
+        requires { length self.now.held.items ≡ 5 }
+        ensures { result ≡ numbers_and_kind (drop 1 (map token_of self.now.held.items)) }
+    {
+        Ok((
+            self.number(1)?,
+            self.number(2)?,
+            self.number(3)?,
+            self.kind(4)?,
+        ))
     }
 
     // Refuses too many words, or too few, after the verb.
