@@ -8,7 +8,7 @@ The replies come from the little model below. It knows
     a walk along every path how many cost that. A circuit is only lit where there is one, since of several
     the console may take any;
   - the labels of channels (label), and so the slip of a path.
-It doesn't know where costs end (docs/costs.md), and TRIAL is no verb to it.
+It doesn't know where costs end (docs/costs.md).
 Each ticket below also has its reply beside it, written by hand.
 """
 import heapq
@@ -56,7 +56,8 @@ def words(line):
 
 
 ORDER = ["number", "number", "number", "kind"]
-VERBS = {b"LIGHT": ORDER, b"QUOTE": ORDER, b"DARK": ["number"], b"SHUT": ["number"], b"SLIP": ["number"]}
+VERBS = {b"LIGHT": ORDER, b"QUOTE": ORDER, b"TRIAL": ORDER,
+         b"DARK": ["number"], b"SHUT": ["number"], b"SLIP": ["number"]}
 
 
 def ticket(line):
@@ -173,16 +174,27 @@ class Book:
         if (circuit in self.circuits) != stands:
             raise Refused(23, 0)
 
-    def order(self, circuit, source, target, kind):
-        self.judge_circuit(circuit, stands=False)
+    def judge_ends(self, source, target):
         if max(source, target) >= self.network.nodes:
             raise Refused(24, 0)
         if source == target:
             raise Refused(25, 0)
-        found, spent = cheapest(self.network, self.usable(), kind, source, target)
+
+    def judge_span(self, span):
+        if span >= len(self.network.spans):
+            raise Refused(26, 0)
+
+    def find(self, usable, source, target, kind):
+        """The cheapest paths over some steps, and the text of what they cost."""
+        found, spent = cheapest(self.network, usable, kind, source, target)
         if not found:
             raise Refused(29, 0)
         return found, KINDS[kind][1] % spent
+
+    def order(self, circuit, source, target, kind):
+        self.judge_circuit(circuit, stands=False)
+        self.judge_ends(source, target)
+        return self.find(self.usable(), source, target, kind)
 
     def light(self, circuit, source, target, kind):
         found, text = self.order(circuit, source, target, kind)
@@ -193,13 +205,18 @@ class Book:
     def quote(self, circuit, source, target, kind):
         return b"FEE %s" % self.order(circuit, source, target, kind)[1]
 
+    def trial(self, source, target, span, kind):
+        self.judge_ends(source, target)
+        self.judge_span(span)
+        left = [step for step in self.usable() if step[0] != span]
+        return b"FEE %s" % self.find(left, source, target, kind)[1]
+
     def dark(self, circuit):
         self.judge_circuit(circuit, stands=True)
         return b"DARK %d %d" % (circuit, len(self.circuits.pop(circuit)))
 
     def shut_span(self, span):
-        if span >= len(self.network.spans):
-            raise Refused(26, 0)
+        self.judge_span(span)
         self.shut.add(span)
         return b"SHUT %d" % span
 
@@ -209,8 +226,8 @@ class Book:
         return "\n".join(["SLIP %d %d" % (circuit, len(lines)), *lines]).encode()
 
     def reply(self, line):
-        calls = {b"LIGHT": self.light, b"QUOTE": self.quote, b"DARK": self.dark,
-                 b"SHUT": self.shut_span, b"SLIP": self.slip}
+        calls = {b"LIGHT": self.light, b"QUOTE": self.quote, b"TRIAL": self.trial,
+                 b"DARK": self.dark, b"SHUT": self.shut_span, b"SLIP": self.slip}
         try:
             verb, told = ticket(line)
             return calls[verb](*told)
@@ -254,6 +271,7 @@ SAMPLE = Network(
 # a line, and its reply by hand
 TICKETS = [
     (b"QUOTE 1 0 3 FEW", b"FEE 0+9"),
+    (b"TRIAL 0 3 0 SUM", b"FEE 9"),
     (b"LIGHT 1 0 3 SUM", b"LIT 1 6"),
     (b"LIGHT 2 0 3 SUM", b"LIT 2 9"),
     (b"LIGHT 3 0 3 SUM", b"NO 29 0"),
@@ -288,12 +306,41 @@ TICKETS = [
     # no path leads against the spans, nor over the one that is shut
     (b"QUOTE 3 3 0 SUM", b"NO 29 0"),
     (b"LIGHT 3 0 1 FEW", b"NO 29 0"),
+    # a trial takes no circuit and shuts nothing: span 2 has one channel left, and span 1 too
+    (b"TRIAL 0 2 3 SUM", b"FEE 4"),
+    (b"TRIAL 0 2 1 FEW", b"FEE 0+4"),
+    (b"TRIAL 0 2 3 WORST", b"FEE 4"),
+    (b"TRIAL 1 3 2 SUM", b"FEE 3"),
+    (b"TRIAL 1 3 3 FEW", b"FEE 0+3"),
+    # the span is shut already
+    (b"TRIAL 0 2 0 SUM", b"FEE 4"),
+    (b"TRIAL 0 2 00000 FEW", b"FEE 0+4"),
+    (b"TRIAL 00001 03 0 WORST", b"FEE 3"),
+    (b"TRIAL 0 1 0 WORST", b"NO 29 0"),
+    # without the span no path leads there, and without any none did
+    (b"TRIAL 0 2 2 SUM", b"NO 29 0"),
+    (b"TRIAL 0 2 2 FEW", b"NO 29 0"),
+    (b"TRIAL 1 3 1 WORST", b"NO 29 0"),
+    (b"TRIAL 0 3 1 SUM", b"NO 29 0"),
+    (b"TRIAL 3 0 2 FEW", b"NO 29 0"),
+    # no such node, one node, no such span; the lowest number comes first
+    (b"TRIAL 4 3 0 SUM", b"NO 24 0"),
+    (b"TRIAL 0 4 0 FEW", b"NO 24 0"),
+    (b"TRIAL 128 3 1 WORST", b"NO 24 0"),
+    (b"TRIAL 65535 65535 4 WORST", b"NO 24 0"),
+    (b"TRIAL 0 65535 65535 SUM", b"NO 24 0"),
+    (b"TRIAL 3 3 0 SUM", b"NO 25 0"),
+    (b"TRIAL 0 0 4 FEW", b"NO 25 0"),
+    (b"TRIAL 0 2 4 SUM", b"NO 26 0"),
+    (b"TRIAL 1 3 65535 FEW", b"NO 26 0"),
+    (b"TRIAL 3 0 256 WORST", b"NO 26 0"),
     # one channel of span 2 is left, by every kind of cost
     (b"QUOTE 3 0 2 SUM", b"FEE 4"),
     (b"QUOTE 3 0 2 FEW", b"FEE 0+4"),
     (b"QUOTE 3 0 2 WORST", b"FEE 4"),
     (b"LIGHT 0 0 2 WORST", b"LIT 0 4"),
     (b"QUOTE 3 0 2 SUM", b"NO 29 0"),
+    (b"TRIAL 0 2 3 SUM", b"NO 29 0"),
     (b"SLIP 0", b"SLIP 0 2\n0 - - 2 22000001\n2 2 22000001 - -"),
     (b"QUOTE 00127 00001 00003 WORST", b"FEE 3"),
     (b"LIGHT 00127 01 00003 FEW", b"LIT 127 0+3"),
@@ -302,6 +349,11 @@ TICKETS = [
     (b"DARK 2", b"DARK 2 2"),
     (b"DARK 2", b"NO 23 0"),
     (b"QUOTE 2 0 3 WORST", b"FEE 5"),
+    (b"TRIAL 0 3 1 SUM", b"FEE 9"),
+    (b"TRIAL 0 3 1 FEW", b"FEE 0+9"),
+    (b"TRIAL 0 3 0 WORST", b"FEE 5"),
+    (b"TRIAL 0 3 2 WORST", b"NO 29 0"),
+    (b"TRIAL 0 3 3 FEW", b"NO 29 0"),
     (b"LIGHT 2 2 3 FEW", b"LIT 2 0+5"),
     (b"SLIP 2", b"SLIP 2 2\n2 - - 3 22000000\n3 3 22000000 - -"),
     (b"QUOTE 1 0 3 SUM", b"NO 29 0"),
@@ -311,6 +363,7 @@ TICKETS = [
     (b"DARK 2", b"DARK 2 2"),
     # two paths are equally cheap
     (b"QUOTE 2 0 2 FEW", b"FEE 0+4"),
+    (b"TRIAL 0 2 1 FEW", b"FEE 0+4"),
 
     # too few words, too many
     (b"LIGHT", b"NO 17 6"),
@@ -320,6 +373,12 @@ TICKETS = [
     (b"QUOTE", b"NO 17 6"),
     (b"QUOTE 1 0 3", b"NO 17 12"),
     (b"QUOTE 1 0 3 SUM FEW", b"NO 17 17"),
+    (b"TRIAL", b"NO 17 6"),
+    (b"TRIAL 0 X", b"NO 17 10"),
+    (b"TRIAL 0 3 0", b"NO 17 12"),
+    (b"TRIAL 0 3 SUM", b"NO 17 14"),
+    (b"TRIAL 0 3 0 SUM 1", b"NO 17 17"),
+    (b"TRIAL 1 0 3 0 SUM", b"NO 17 15"),
     (b"DARK", b"NO 17 5"),
     (b"DARK 1 SUM", b"NO 17 8"),
     (b"SLIP", b"NO 17 5"),
@@ -330,26 +389,39 @@ TICKETS = [
     (b"LIGHT 1 0 3 5", b"NO 18 13"),
     (b"QUOTE 1 X 3 SUM", b"NO 18 9"),
     (b"QUOTE 1 0 X BEST", b"NO 18 11"),
+    (b"TRIAL X 3 0 SUM", b"NO 18 7"),
+    (b"TRIAL SUM 0 3 0", b"NO 18 7"),
+    (b"TRIAL 0 X 0 BEST", b"NO 18 9"),
+    (b"TRIAL 0 3 X 5", b"NO 18 11"),
+    (b"TRIAL 0 3 0 00", b"NO 18 13"),
     (b"DARK SUM", b"NO 18 6"),
     (b"SLIP X", b"NO 18 6"),
     (b"LIGHT 128 0 0 BEST", b"NO 19 15"),
     (b"QUOTE 1 0 3 SUMS", b"NO 19 13"),
     (b"QUOTE 1 0 3 SU", b"NO 19 13"),
+    (b"TRIAL 0 3 0 BEST", b"NO 19 13"),
+    (b"TRIAL 4 4 4 WORSE", b"NO 19 13"),
+    (b"TRIAL 0 3 0 FEWER", b"NO 19 13"),
     # verbs that there are not
-    (b"TRIAL 0 3 0 SUM", b"NO 16 1"),
+    (b"TRY 0 3 0 SUM", b"NO 16 1"),
+    (b"TRIALS 0 3 0 SUM", b"NO 16 1"),
     (b"LIGHTS 1 0 3 SUM", b"NO 16 1"),
     (b"SUM 1", b"NO 16 1"),
     (b"1 DARK", b"NO 16 1"),
     # spaces, foreign bytes, large numbers
     (b" QUOTE 1 0 3 SUM", b"NO 13 1"),
     (b"QUOTE 1  0 3 SUM", b"NO 13 9"),
+    (b"TRIAL 0 3 0 SUM ", b"NO 13 16"),
     (b"DARK 1 ", b"NO 13 7"),
     (b"light 1 0 3 SUM", b"NO 14 1"),
     (b"LIGHT 1 0 3 sum", b"NO 14 13"),
     (b"QUOTE 1 0 3 SUM3", b"NO 14 16"),
+    (b"TRIAL 0 3 0 sum", b"NO 14 13"),
     (b"SLIP -1", b"NO 14 6"),
     (b"LIGHT 65536 0 3 BEST", b"NO 15 7"),
     (b"QUOTE 1 0 65536 sum", b"NO 15 11"),
+    (b"TRIAL 0 3 65536 SUM", b"NO 15 11"),
+    (b"TRIAL 000000 3 0 BEST", b"NO 15 7"),
     (b"DARK 65536", b"NO 15 6"),
     (b"SLIP 000127", b"NO 15 6"),
 
@@ -357,6 +429,11 @@ TICKETS = [
     (b"SHUT 3", b"SHUT 3"),
     (b"SHUT 0", b"SHUT 0"),
     (b"SHUT 00003", b"SHUT 3"),
+    # two spans are shut: a trial with one of them is as without
+    (b"TRIAL 0 2 3 WORST", b"FEE 4"),
+    (b"TRIAL 0 2 0 SUM", b"FEE 4"),
+    (b"TRIAL 2 3 3 FEW", b"NO 29 0"),
+    (b"TRIAL 2 3 0 FEW", b"NO 29 0"),
     (b"SHUT 4", b"NO 26 0"),
     (b"SHUT 65535", b"NO 26 0"),
     (b"", b"NO 12 0"),

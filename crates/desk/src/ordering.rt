@@ -5,7 +5,7 @@ ghost use Rattle.book.specs.State.{tables, Kept};
 ghost use Rattle.orders.specs.Orders.{lit_changes};
 ghost use Rattle.desk.specs.Replies.{Costs, Maps};
 ghost use Rattle.desk.specs.declared.reply.Cost.TheVariants as cost;
-ghost use Rattle.desk.specs.Serving.{ByKind};
+ghost use Rattle.desk.specs.Serving.{Orders, Trials};
 
 use super::reply::Cost;
 use book::Book;
@@ -18,7 +18,7 @@ use fault::book::BookFault;
 use network::Network;
 use orders::{light, price};
 use search::label::Label;
-use ticket::{CostKind, Order};
+use ticket::{CostKind, Order, Trial};
 
 // As many labels as the largest network has arrivals: 64 nodes, 16 channels.
 const LABELS: usize = 1024;
@@ -51,7 +51,7 @@ pub(crate) fn light_by_kind(
     order: Order,
 ) -> Result<Cost, BookFault>
     ensures kept { Kept book.old book.new }
-    ensures answer { ByKind (net network.now) book.old.extent.counts (tables book.old) order order.kind
+    ensures answer { Orders (net network.now) book.old.extent.counts (tables book.old) order
         (λ p text. Costs result text × (tables book.new ≡ changed_by book.old.extent.counts (lit_changes order.circuit order.from order.to p) (tables book.old)))
         (λ f. (result ≡ Err f) × (tables book.new ≡ tables book.old)) }
 {
@@ -84,7 +84,7 @@ pub(crate) fn price_by_kind(
     order: Order,
 ) -> Result<Cost, BookFault>
     ensures kept { Kept book.old book.new }
-    ensures answer { ByKind (net network.now) book.old.extent.counts (tables book.old) order order.kind (λ p text. Costs result text) (λ f. result ≡ Err f) }
+    ensures answer { Orders (net network.now) book.old.extent.counts (tables book.old) order (λ p text. Costs result text) (λ f. result ≡ Err f) }
     ensures tables { tables book.new ≡ tables book.old }
 {
     let Order {
@@ -105,6 +105,38 @@ pub(crate) fn price_by_kind(
         CostKind::Worst => {
             let mut labels: [Label<u16>; LABELS] = [None; LABELS];
             by_worst(price(book, network, circuit, from, to, &Worst, &mut labels))
+        }
+    }
+}
+
+// Prices a trial, by its kind of cost.
+pub(crate) fn try_by_kind(
+    network: &Network<'_, '_>,
+    book: &mut Book<'_, '_, '_>,
+    trial: Trial,
+) -> Result<Cost, BookFault>
+    ensures kept { Kept book.old book.new }
+    ensures answer { Trials (net network.now) book.old.extent.counts (tables book.old) trial (λ p text. Costs result text) (λ f. result ≡ Err f) }
+    ensures tables { tables book.new ≡ tables book.old }
+{
+    let Trial {
+        from,
+        to,
+        span,
+        kind,
+    } = trial;
+    match kind {
+        CostKind::Sum => {
+            let mut labels: [Label<Fee>; LABELS] = [None; LABELS];
+            by_sum(book.trial(network, from, to, span, &Sum, &mut labels))
+        }
+        CostKind::Few => {
+            let mut labels: [Label<Tally>; LABELS] = [None; LABELS];
+            by_few(book.trial(network, from, to, span, &Few, &mut labels))
+        }
+        CostKind::Worst => {
+            let mut labels: [Label<u16>; LABELS] = [None; LABELS];
+            by_worst(book.trial(network, from, to, span, &Worst, &mut labels))
         }
     }
 }

@@ -5,7 +5,7 @@ ghost use Rattle.ticket.specs.Tickets.{ticket_of};
 ghost use Rattle.desk.specs.Replies.{text, book_said, said_of};
 ghost use Rattle.desk.specs.Serving.{Called, Served, Answered};
 
-use super::ordering::{light_by_kind, price_by_kind};
+use super::ordering::{light_by_kind, price_by_kind, try_by_kind};
 use super::refusal::DeskFault;
 use super::reply::Reply;
 use book::Book;
@@ -33,13 +33,15 @@ fn call<'s>(
     match ticket {
         Ticket::Light(order) => {
             let cost = light_by_kind(network, book, order)?;
-            Ok(Reply::Lit {
-                circuit: order.circuit,
-                cost,
-            })
+            let circuit = order.circuit;
+            Ok(Reply::Lit { circuit, cost })
         }
         Ticket::Quote(order) => {
             let cost = price_by_kind(network, book, order)?;
+            Ok(Reply::Fee { cost })
+        }
+        Ticket::Trial(trial) => {
+            let cost = try_by_kind(network, book, trial)?;
             Ok(Reply::Fee { cost })
         }
         Ticket::Dark { circuit } => {

@@ -11,12 +11,12 @@ use Rattle.desk.proofs.ordering.light_by_kind.Goals as goal
 
 pub returns-in-Sum-clause-answer : goal.returns-in-Sum-clause-answer
 returns-in-Sum-clause-answer c =
-    lit_by (net c.args.network.now) c.args.book.now.extent.counts (tables c.args.book.now) c.args.order c.args.order.kind kind.Sum c.args.network.now.extent.counted c.in-Sum.is sum_ops fee_text (λ v. cost.Sum v) (λ v. refl) c.light.result c.by_sum.result _ refl c.by_sum.ensures (tables c.light.new.book) (λ z. z) c.light.ensures.answer
+    lit_by (net c.args.network.now) c.args.book.now.extent.counts (tables c.args.book.now) c.args.network.now.extent.counted kind.Sum sum_ops fee_text (λ v. cost.Sum v) (λ v. refl) (λ g s t due P R z. z) c.light.result c.by_sum.result c.by_sum.ensures _ refl c.args.order (tables c.light.new.book) c.in-Sum.is c.light.ensures.answer
 
 pub returns-in-Few-clause-answer : goal.returns-in-Few-clause-answer
 returns-in-Few-clause-answer c =
-    lit_by (net c.args.network.now) c.args.book.now.extent.counts (tables c.args.book.now) c.args.order c.args.order.kind kind.Few c.args.network.now.extent.counted c.in-Few.is few_ops tally_text (λ v. cost.Few v) (λ v. refl) c.light-in-Few.result c.by_few.result _ refl c.by_few.ensures (tables c.light-in-Few.new.book) (λ z. z) c.light-in-Few.ensures.answer
+    lit_by (net c.args.network.now) c.args.book.now.extent.counts (tables c.args.book.now) c.args.network.now.extent.counted kind.Few few_ops tally_text (λ v. cost.Few v) (λ v. refl) (λ g s t due P R z. z) c.light-in-Few.result c.by_few.result c.by_few.ensures _ refl c.args.order (tables c.light-in-Few.new.book) c.in-Few.is c.light-in-Few.ensures.answer
 
 pub returns-in-Worst-clause-answer : goal.returns-in-Worst-clause-answer
 returns-in-Worst-clause-answer c =
-    lit_by (net c.args.network.now) c.args.book.now.extent.counts (tables c.args.book.now) c.args.order c.args.order.kind kind.Worst c.args.network.now.extent.counted c.in-Worst.is worst_ops decimal (λ v. cost.Worst v) (λ v. refl) c.light-in-Worst.result c.by_worst.result _ refl c.by_worst.ensures (tables c.light-in-Worst.new.book) (λ z. z) c.light-in-Worst.ensures.answer
+    lit_by (net c.args.network.now) c.args.book.now.extent.counts (tables c.args.book.now) c.args.network.now.extent.counted kind.Worst worst_ops decimal (λ v. cost.Worst v) (λ v. refl) (λ g s t due P R z. z) c.light-in-Worst.result c.by_worst.result c.by_worst.ensures _ refl c.args.order (tables c.light-in-Worst.new.book) c.in-Worst.is c.light-in-Worst.ensures.answer

@@ -11,12 +11,12 @@ use Rattle.desk.proofs.ordering.price_by_kind.Goals as goal
 
 pub returns-in-Sum-clause-answer : goal.returns-in-Sum-clause-answer
 returns-in-Sum-clause-answer c =
-    priced_by (net c.args.network.now) c.args.book.now.extent.counts (tables c.args.book.now) c.args.order c.args.order.kind kind.Sum c.args.network.now.extent.counted c.in-Sum.is sum_ops fee_text (λ v. cost.Sum v) (λ v. refl) c.price.result c.by_sum.result _ refl c.by_sum.ensures (λ z. z) c.price.ensures.answer
+    priced_by (net c.args.network.now) c.args.book.now.extent.counts (tables c.args.book.now) c.args.network.now.extent.counted kind.Sum sum_ops fee_text (λ v. cost.Sum v) (λ v. refl) (λ g s t due P R z. z) c.price.result c.by_sum.result c.by_sum.ensures _ refl c.args.order c.in-Sum.is c.price.ensures.answer
 
 pub returns-in-Few-clause-answer : goal.returns-in-Few-clause-answer
 returns-in-Few-clause-answer c =
-    priced_by (net c.args.network.now) c.args.book.now.extent.counts (tables c.args.book.now) c.args.order c.args.order.kind kind.Few c.args.network.now.extent.counted c.in-Few.is few_ops tally_text (λ v. cost.Few v) (λ v. refl) c.price-in-Few.result c.by_few.result _ refl c.by_few.ensures (λ z. z) c.price-in-Few.ensures.answer
+    priced_by (net c.args.network.now) c.args.book.now.extent.counts (tables c.args.book.now) c.args.network.now.extent.counted kind.Few few_ops tally_text (λ v. cost.Few v) (λ v. refl) (λ g s t due P R z. z) c.price-in-Few.result c.by_few.result c.by_few.ensures _ refl c.args.order c.in-Few.is c.price-in-Few.ensures.answer
 
 pub returns-in-Worst-clause-answer : goal.returns-in-Worst-clause-answer
 returns-in-Worst-clause-answer c =
-    priced_by (net c.args.network.now) c.args.book.now.extent.counts (tables c.args.book.now) c.args.order c.args.order.kind kind.Worst c.args.network.now.extent.counted c.in-Worst.is worst_ops decimal (λ v. cost.Worst v) (λ v. refl) c.price-in-Worst.result c.by_worst.result _ refl c.by_worst.ensures (λ z. z) c.price-in-Worst.ensures.answer
+    priced_by (net c.args.network.now) c.args.book.now.extent.counts (tables c.args.book.now) c.args.network.now.extent.counted kind.Worst worst_ops decimal (λ v. cost.Worst v) (λ v. refl) (λ g s t due P R z. z) c.price-in-Worst.result c.by_worst.result c.by_worst.ensures _ refl c.args.order c.in-Worst.is c.price-in-Worst.ensures.answer
