@@ -1,4 +1,5 @@
-//! What examples of the book begin with: the sample network's plan and tables, orders and offers in hand.
+//! What examples of the book begin with: the sample network's plan and tables, orders and offers in hand,
+//! and labels of earlier use.
 #![tactic(auto)]
 
 ghost use Rattle.std.specs.Prelude.{◌≡◌, length, drop, IsSome};
@@ -18,6 +19,7 @@ use fault::book::BookFault;
 use network::Network;
 use search::label::Label;
 
+pub mod old;
 pub mod sample;
 
 // A circuit, and from where to where it is to lead.

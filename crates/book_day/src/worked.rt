@@ -32,7 +32,7 @@ fn standing(state: State, order: Order, steps: u16) -> Result<Option<Status>, Bo
 }
 
 // What is offered for an order, which has to be something.
-fn offered<K: Kind>(
+pub(crate) fn offered<K: Kind>(
     rt: &impl Abort,
     book: &mut Book,
     network: &Network,

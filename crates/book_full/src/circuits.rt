@@ -5,6 +5,7 @@ use book::offer::Offered;
 use book::status::{State, Status};
 use cost::fee::Fee;
 use cost::sum::Sum;
+use fault::book::BookFault;
 use network::Network;
 use plan::reader::check as check_plan;
 use records::circuit::Circuit;
@@ -89,16 +90,43 @@ fn refuse(
     }
 }
 
+// Each is reckoned at what it cost, and a trial comes to the cheapest channel of those left, which are all
+// on the last span.
+fn all_priced(rt: &impl Abort, book: &mut Book, network: &Network, labels: &mut [Label<Fee>]) {
+    for circuit in 0..128u16 {
+        let fee = Fee::new(u32::from(circuit));
+        assert_eq!(rt; book.reckon(network, circuit, &Sum), Ok(fee), "{circuit}");
+    }
+    for span in 0..8u16 {
+        let answer = book.trial(network, 0, 1, span, &Sum, labels);
+        assert_eq!(rt; answer, Ok(Fee::new(128)), "{span}");
+    }
+    let none = book.trial(network, 0, 1, 8, &Sum, labels);
+    assert_eq!(rt; none, Err(BookFault::NoPath));
+}
+
+// Circuit 40 gave back a channel of span 2, and is no longer reckoned.
+fn one_left(rt: &impl Abort, book: &mut Book, network: &Network, labels: &mut [Label<Fee>]) {
+    let free = book.reckon(network, 40, &Sum);
+    assert_eq!(rt; free, Err(BookFault::CircuitState));
+    for (span, cost) in [(1, 40), (2, 128), (3, 40), (8, 40)] {
+        let answer = book.trial(network, 0, 1, span, &Sum, labels);
+        assert_eq!(rt; answer, Ok(Fee::new(cost)), "{span}");
+    }
+}
+
 // There is no circuit more, though channels are left; one that is darkened can be lit again, and takes
 // the channel that it gave back.
 fn one_more(rt: &impl Abort, book: &mut Book, network: &Network) {
     let mut labels: [Label<Fee>; 32] = [None; 32];
     light_all(rt, book, network, &mut labels);
     all_lit(rt, book);
+    all_priced(rt, book, network, &mut labels);
     refuse(rt, book, network, 128, &mut labels, 21);
     refuse(rt, book, network, 40, &mut labels, 23);
     assert_eq!(rt; book.darken(40), Ok(1));
     assert_eq!(rt; book.look(40), Ok(None));
+    one_left(rt, book, network, &mut labels);
     refuse(rt, book, network, 128, &mut labels, 21);
     assert_eq!(rt; light(rt, book, network, 40, &mut labels), Fee::new(40));
     all_lit(rt, book);

@@ -55,3 +55,11 @@ pub(crate) fn handed_back<A: Drop>(
         }
     }
 }
+
+// That a call is refused by this number.
+pub(crate) fn refuse<A: Drop>(rt: &impl Abort, answer: Result<A, BookFault>, number: u8) {
+    match answer {
+        Ok(_) => rt.abort(),
+        Err(fault) => refused(rt, fault, number),
+    }
+}

@@ -1,11 +1,11 @@
-use super::hands::{open, refused, spent};
+use super::asked::{at_other_network, reckonings, trials};
+use super::hands::{open, refuse, refused, spent};
 use at_book::sample::{SAMPLE, STALE, Tables};
 use at_book::{Order, in_hand};
 use book::Book;
 use book::lent::Lent;
 use cost::fee::Fee;
 use cost::sum::Sum;
-use fault::book::BookFault;
 use fault::plan::LoadFault;
 use label::Label as Name;
 use network::Network;
@@ -59,14 +59,6 @@ fn refuse_slip(
     }
     for setting in buffer.iter() {
         assert_eq!(rt; *setting, OLD);
-    }
-}
-
-// That another call is refused by this number.
-fn refuse<A: Drop>(rt: &impl Abort, answer: Result<A, BookFault>, number: u8) {
-    match answer {
-        Ok(_) => rt.abort(),
-        Err(fault) => refused(rt, fault, number),
     }
 }
 
@@ -135,6 +127,9 @@ fn two_circuits(rt: &impl Abort, book: &mut Book, network: &Network, stranger: O
         orders(rt, book, network);
         slips(rt, book, network);
         others(rt, book);
+        at_other_network(rt, book, stranger);
+        trials(rt, book, network);
+        reckonings(rt, book, network);
     }
     assert_eq!(rt; spent(rt, book.confirm(offer)), 2);
 }

@@ -5,6 +5,8 @@
 //! says how often.
 #![tactic(auto)]
 
+#[cfg(test)]
+mod booked;
 mod draws;
 mod groups;
 mod judge;

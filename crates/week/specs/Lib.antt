@@ -1,0 +1,2 @@
+pub mod Weeks
+pub mod Outcomes
