@@ -1,4 +1,5 @@
-ghost use Rattle.std.specs.Prelude.{◌≡◌, length};
+ghost use Rattle.std.specs.Prelude.{◌≡◌, length, drop, IsErr};
+ghost use Rattle.network.specs.Tariffs.{arrival_entries};
 ghost use Rattle.network.specs.Net.{net};
 ghost use Rattle.book.specs.Opening.{room};
 ghost use Rattle.book.specs.State.{lent, tables, Kept, SameTables};
@@ -36,6 +37,8 @@ fn live(
 ) -> Told
     ensures kept { Kept book.old book.new }
     ensures calls { Goes (Week (net network.now) trip (length tallies.old) (length sums.old) settings.old settings.new result) book.old book.new }
+    ensures beyond_sums { drop (arrival_entries (net network.now).counts) sums.new ≡ drop (arrival_entries (net network.now).counts) sums.old }
+    ensures beyond_tallies { drop (arrival_entries (net network.now).counts) tallies.new ≡ drop (arrival_entries (net network.now).counts) tallies.old }
 {
     let lit = light(book, network, trip, tallies);
     let seen = book.look(trip.circuit);
@@ -73,6 +76,9 @@ pub fn week<'a, 'b, 'c>(
     ensures names { Comes (room (net network.now).counts (lent channels.old circuits.old spans.old)) (λ told b. SameTables (record { channels = channels.entry; circuits = circuits.entry; spans = spans.entry }) b.lent) result }
     ensures agrees { Comes (room (net network.now).counts (lent channels.old circuits.old spans.old)) (λ told b. Accounted (Week (net network.now) trip (length tallies.old) (length sums.old) settings.old settings.new told) (net network.now).counts mark (tables b)) result }
     ensures seen { Comes (room (net network.now).counts (lent channels.old circuits.old spans.old)) (λ told b. GivesBackSeen trip told) result }
+    ensures beyond_sums { drop (arrival_entries (net network.now).counts) sums.new ≡ drop (arrival_entries (net network.now).counts) sums.old }
+    ensures beyond_tallies { drop (arrival_entries (net network.now).counts) tallies.new ≡ drop (arrival_entries (net network.now).counts) tallies.old }
+    ensures refused { IsErr (room (net network.now).counts (lent channels.old circuits.old spans.old)) → (sums.new ≡ sums.old) × (tallies.new ≡ tallies.old) × (settings.new ≡ settings.old) }
 {
     if let Err(fault) = check_tables(network, channels, circuits, spans) {
         return Outcome::Refused(fault);

@@ -1,4 +1,5 @@
-ghost use Rattle.std.specs.Prelude.{length};
+ghost use Rattle.std.specs.Prelude.{◌≡◌, length, drop};
+ghost use Rattle.network.specs.Tariffs.{arrival_entries};
 ghost use Rattle.network.specs.Net.{net};
 ghost use Rattle.book.specs.State.{Kept};
 ghost use Rattle.account.specs.Going.{Goes};
@@ -24,6 +25,7 @@ pub(crate) fn light(
 ) -> Result<u8, BookFault>
     ensures kept { Kept book.old book.new }
     ensures calls { Goes (Lights (net network.now) trip.circuit trip.from trip.to (length labels.old) result) book.old book.new }
+    ensures beyond { drop (arrival_entries (net network.now).counts) labels.new ≡ drop (arrival_entries (net network.now).counts) labels.old }
 {
     let Offered {
         cost: _,
@@ -46,6 +48,7 @@ pub(crate) fn doubt(
 ) -> Result<u16, BookFault>
     ensures kept { Kept book.old book.new }
     ensures calls { Goes (Doubts (net network.now) trip.other trip.from trip.to (length labels.old) result) book.old book.new }
+    ensures beyond { drop (arrival_entries (net network.now).counts) labels.new ≡ drop (arrival_entries (net network.now).counts) labels.old }
 {
     let Offered {
         cost: _,
