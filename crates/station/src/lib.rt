@@ -2,6 +2,7 @@
 #![tactic(auto)]
 
 ghost use Rattle.std.specs.Prelude.{◌≤◌, length};
+ghost use Rattle.account.specs.Law.{Law};
 ghost use Rattle.desk.specs.Inputs.{AnsweredByLines};
 
 use account::open;
@@ -38,12 +39,11 @@ fn read_plan(rt: &HostRuntime) -> io::Result<Vec<u8>> {
     }
 }
 
-// Answers the tickets of the input, chunk by chunk.
-fn serve(
-    rt: &HostRuntime,
-    network: &Network<'_, '_>,
-    book: &mut Book<'_, '_, '_>,
-) -> io::Result<()> {
+// Answers the tickets of the input, chunk by chunk, at a book that has just been opened under the law
+// over every run.
+fn serve(rt: &HostRuntime, network: &Network<'_, '_>, book: &mut Book<'_, '_, '_>) -> io::Result<()>
+    requires { Law book.old }
+{
     let mut line = Line::new();
     let mut chunk = vec![in rt.alloc(); 0u8; CHUNK]?;
     let mut out = String::new(rt.alloc());
