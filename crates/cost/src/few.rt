@@ -34,6 +34,6 @@ impl Kind for Few {
     }
 
     fn at_most(&self, a: Tally, b: Tally) -> bool {
-        a <= b
+        a.key() <= b.key()
     }
 }

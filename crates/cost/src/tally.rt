@@ -1,4 +1,4 @@
-ghost use Rattle.std.specs.Prelude.{◌≡◌, ◌≤◌};
+ghost use Rattle.std.specs.Prelude.{◌≡◌, ◌+◌, ◌*◌, ◌≤◌};
 ghost use Rattle.cost.specs.Ends.{largest_sum, largest_count};
 
 use super::fee::Fee;
@@ -6,7 +6,7 @@ use std::fmt;
 
 // A value of FEW: how many conversions, and the tariffs added up. Where the count has stopped, so
 // has the sum.
-#[derive(Clone, Copy, Debug, PartialEq, Eq, PartialOrd, Ord)]
+#[derive(Clone, Copy, Debug, PartialEq, Eq)]
 pub struct Tally {
     pub conversions: u16,
     pub sum: Fee,
@@ -28,6 +28,13 @@ impl Tally {
                 sum: Fee::new(u32::MAX),
             },
         }
+    }
+
+    // One number that compares as the tally does: the count above the sum.
+    pub(crate) fn key(self) -> u64
+        ensures { result ≡ self.conversions * 4294967296 + self.sum.amount }
+    {
+        u64::from(self.conversions) * 0x1_0000_0000 + u64::from(self.sum.amount)
     }
 }
 

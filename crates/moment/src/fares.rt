@@ -1,7 +1,8 @@
 ghost use Rattle.std.specs.Prelude.{◌≡◌};
 ghost use Rattle.network.specs.Net.{net};
+ghost use Rattle.semilightpath.specs.Rates.{rate_of};
 ghost use Rattle.moment.specs.Usable.{span_is_open, channel_is_free, fare_at};
-ghost use Rattle.moment.specs.Charged.{fare_charged};
+ghost use Rattle.moment.specs.Charged.{fare_charged, fare_told};
 
 use super::Moment;
 use network::step::Step;
@@ -28,7 +29,11 @@ impl Moment<'_, '_, '_, '_, '_> {
 impl Fares for Moment<'_, '_, '_, '_, '_> {
     ghost fare = { λ m e. fare_at (net m.network.now) m.channels.now m.spans.now e };
 
+    ghost rate = { λ m e. rate_of (net m.network.now) e };
+
     ghost charged = { λ m e. fare_charged (net m.network.now) m.channels.now m.spans.now e };
+
+    ghost told = { λ m e. fare_told (net m.network.now) m.channels.now m.spans.now e };
 
     fn fare(&self, step: Step) -> Option<u16> {
         let span = usize::from(step.span);
@@ -36,5 +41,9 @@ impl Fares for Moment<'_, '_, '_, '_, '_> {
             return None;
         }
         self.network.tariff(span, usize::from(step.channel))
+    }
+
+    fn rate(&self, step: Step) -> u16 {
+        self.network.rate(step)
     }
 }

@@ -1,7 +1,7 @@
 -- The spans that leave a node are those whose tail it is.
 use Rattle.std.proofs.Common.{◌≡◌, ℕ, zero, suc, ◌+◌, ◌<◌, ◌≤◌, Bool, true, false, cond, eqb, List, [], ◌∷◌, filter, length, get_or, take, slice_range, sym, refl, ap, ◌∙◌, subst, ⊎_elim, arith}
 use Rattle.std.specs.List.{range_with_len}
-use Rattle.std.proofs.lemmas.Bool.{cases_eq, cond-true, eq-eqb, ne_eqb}
+use Rattle.std.proofs.lemmas.Bool.{cases_eq, cond-true, eq-eqb, eqb-true, ne_eqb}
 use Rattle.network.specs.declared.counts.Counts.{Counts}
 use Rattle.network.specs.declared.span.Span.{Span}
 use Rattle.network.specs.Limits.{Joined, span_at}
@@ -26,7 +26,20 @@ kept p a (suc n) e h l t =
     (λ (other : a ≡ e → ⊥). further (p a) a e es (kept p (a + 1) n e (omega arith) (omega arith) t))
     (cases_eq a e)
 
+passing_on : (p : ℕ → Bool) (a : ℕ) (es : List ℕ) → ((i : ℕ) → i < length es → p (get_or es i 0) ≡ true) → (b : Bool) → p a ≡ b → (i : ℕ) → i < length (cond b (a ∷ es) es) → p (get_or (cond b (a ∷ es) es) i 0) ≡ true
+passing_on p a es on true q zero h = q
+passing_on p a es on true q (suc i) h = on i (omega (arith, h))
+passing_on p a es on false q i h = on i h
+
+passing : (p : ℕ → Bool) (a n i : ℕ) → i < length (filter p (range_with_len a n)) → p (get_or (filter p (range_with_len a n)) i 0) ≡ true
+passing p a zero i h = absurd (omega (arith, h))
+passing p a (suc n) i h = passing_on p a (filter p (range_with_len (a + 1) n)) (passing p (a + 1) n) (p a) refl i h
+
 module _ (w : Net) (u : ℕ) where
+  -- each of them has the node for its tail
+  pub leaving_tail : (i : ℕ) → i < length (leaving w u) → (span_at w.ends (get_or (leaving w u) i 0)).tail ≡ u
+  leaving_tail i h = eqb-true _ _ (passing (λ e. eqb (span_at w.ends e).tail u) 0 w.counts.spans i h)
+
   -- each span whose tail is the node is among them
   pub leaving_all : (e : ℕ) → e < w.counts.spans → (span_at w.ends e).tail ≡ u → Listed (leaving w u) e
   leaving_all e h t = kept (λ e. eqb (span_at w.ends e).tail u) 0 w.counts.spans e (omega arith) (omega arith) (eq-eqb _ _ t)

@@ -1,52 +1,28 @@
--- The frontier: the least of its costs, and what is listed after a change.
-use Rattle.std.proofs.Common.{◌≡◌, ℕ, ◌+◌, ◌<◌, ◌≤◌, Bool, true, false, cond, ◌⊎◌, not, List, [], ◌∷◌, ◌++◌, length, replicate, Some, None, Option, slice_index_or, ◌≢◌, refl, sym, ap, ◌∙◌, subst, inl, inr, ⊎_elim, arith}
+-- The frontier: which entries are held, and what a change of one label leaves.
+use Rattle.std.proofs.Common.{◌≡◌, ℕ, ◌+◌, ◌*◌, ◌/◌, ◌%◌, ◌<◌, Bool, true, false, ◌⊎◌, cond, not, List, replicate, Some, None, Option, slice_index_or, ◌≢◌, refl, sym, ap, ap₂, ◌∙◌, subst, inl, inr, ⊎_elim, arith}
 use Rattle.std.proofs.lemmas.Option.{none-some, same_Some}
-use Rattle.std.proofs.lemmas.Bool.{true≢false}
-use Rattle.std.proofs.lemmas.Bool.{cases_lt}
-use Rattle.std.specs.List.{count_by, swap_remove}
-use Rattle.std.proofs.lemmas.List.{get_or_default}
-use Rattle.std.proofs.lemmas.List.Sums.{sum_by-swap_remove, sum_by-append}
-use Rattle.std.proofs.lemmas.Map.Keys.{IsDistinct-cons}
-use Rattle.network.specs.Extents.{Counted}
-use Rattle.network.specs.Tariffs.{arrival_entries}
+use Rattle.std.proofs.lemmas.Bool.{true≢false, cases_lt, cases_eq}
+use Rattle.std.proofs.lemmas.Bool.Decides.{nat_tests}
+use Rattle.std.proofs.lemmas.Grind.{common_steps}
+use Rattle.std.proofs.Math.Nat.{mul-le-mul_right}
+use Rattle.network.specs.Tariffs.{arrival_entries, arrival_entry}
 use Rattle.network.specs.declared.counts.Counts.{Counts}
 use Rattle.cost.specs.Laws.{Ops, Laws}
-use Rattle.cost.proofs.Runs.{reflexive}
+use Rattle.heap.specs.Heaps.{Holds, Same, Seated, IsHeap, Beside, WasHeap, is_held}
+use Rattle.heap.proofs.Tables.{seat, within_holds}
+use Rattle.heap.proofs.Held.{held_holds, holds_held, held_same, not_held, heap_agrees}
 use Rattle.search.specs.declared.arrival.Arrival.{Arrival}
 use Rattle.search.specs.declared.label.Known.{Known}
-use Rattle.search.specs.Labels.{Labels, IsInside, cost_of, is_settled, settle}
-use Rattle.search.specs.Invariants.{same, Written, IsLeast, NoneOpen}
+use Rattle.search.specs.Labels.{IsInside, arrival, cost_of, is_settled, settle, labels_in}
+use Rattle.search.specs.Invariants.{IsLeast, NoneOpen}
 use Rattle.search.specs.Tables.{begun_in}
-use Rattle.search.specs.Frontiers.{is_open, Listed, nowhere, at, IsBest, better_of}
-use Rattle.search.proofs.Routes.{same_is, same_self, not_same}
-use Rattle.search.proofs.Rows.{known_inside, none_begun, few_entries}
-use Rattle.search.proofs.Counting.{few_arrivals}
-use Rattle.search.proofs.Counts.{none_passes, one_passes, passes, distinct_counts, all_counts}
-use Rattle.search.proofs.Proposals.{other, label_after}
+use Rattle.search.specs.Frontiers.{is_open, label_at_most, entry_at_most, Listed}
+use Rattle.search.specs.Orders.{IsOrder-entry_at_most, transitive}
+use Rattle.search.proofs.Rows.{known_inside, none_begun, entry_apart}
 
 -- below i, or i itself
 pub last_or : (i j : ℕ) → j < i + 1 → (j < i) ⊎ (j ≡ i)
 last_or i j h = ⊎_elim (λ l. inl l) (λ l. inr (omega (arith, h, l))) (cases_lt j i)
-
-module _ {V : Type 0} {o : Ops V} (laws : Laws o) (ls : Labels V) (xs : List Arrival) (i : ℕ) where
-  pub best_skip : (r : Option (ℕ × V)) → IsBest o ls xs i r → cost_of (ls (at xs i)) ≡ None → IsBest o ls xs (i + 1) r
-  best_skip None h e = λ j k. ⊎_elim (h j) (λ q. ap (λ z. cost_of (ls (at xs z))) q ∙ e) (last_or i j k)
-  best_skip (Some b) h e =
-      let below = h.0 in
-      (omega arith, h.1, λ j w k m. ⊎_elim (λ l. h.2 j w l m) (λ q. absurd (none-some _ (sym e ∙ sym (ap (λ z. cost_of (ls (at xs z))) q) ∙ m))) (last_or i j k))
-
-  pub best_more : (r : Option (ℕ × V)) (w : V) → IsBest o ls xs i r → cost_of (ls (at xs i)) ≡ Some w → IsBest o ls xs (i + 1) (better_of o r i w)
-  best_more None w h e =
-      (omega arith, e, λ j u k m. ⊎_elim (λ l. absurd (none-some _ (sym (h j l) ∙ m))) (λ q. subst (λ (z : V). o.at_most w z ≡ true) (same_Some _ _ (sym e ∙ sym (ap (λ z. cost_of (ls (at xs z))) q) ∙ m)) (reflexive laws w)) (last_or i j k))
-  best_more (Some b) w h e = go (o.at_most b.1 w) refl
-    where
-      same_cost : (j : ℕ) (u : V) → j ≡ i → cost_of (ls (at xs j)) ≡ Some u → w ≡ u
-      same_cost j u q m = same_Some _ _ (sym e ∙ sym (ap (λ z. cost_of (ls (at xs z))) q) ∙ m)
-
-      go : (t : Bool) → o.at_most b.1 w ≡ t → IsBest o ls xs (i + 1) (cond t (Some b) (Some (i, w)))
-      go true t = (let below = h.0 in omega arith, h.1, λ j u k m. ⊎_elim (λ l. h.2 j u l m) (λ q. subst (λ (z : V). o.at_most b.1 z ≡ true) (same_cost j u q m) t) (last_or i j k))
-      go false t =
-          (omega arith, e, λ j u k m. ⊎_elim (λ l. laws.transitive w b.1 u (other (o.at_most b.1 w) (o.at_most w b.1) t (laws.total b.1 w)) (h.2 j u l m)) (λ q. subst (λ (z : V). o.at_most w z ≡ true) (same_cost j u q m) (reflexive laws w)) (last_or i j k))
 
 open_is : {V : Type 0} (l : Option (Known V)) (w : V) → is_settled l ≡ false → cost_of l ≡ Some w → is_open l ≡ true
 open_is None w d h = absurd (none-some _ h)
@@ -60,123 +36,152 @@ settle_open : {V : Type 0} (l : Option (Known V)) → is_open (settle l) ≡ fal
 settle_open None = refl
 settle_open (Some k) = refl
 
-module _ {V : Type 0} (ls : Labels V) (xs : List Arrival) (listed : Listed ls xs) where
-  -- what is listed is open
-  listed_open : (x : Arrival) → 1 ≤ count_by (same x) xs → is_open (ls x) ≡ true
-  listed_open x h = go (is_open (ls x)) refl
-    where
-      go : (b : Bool) → is_open (ls x) ≡ b → is_open (ls x) ≡ true
-      go true e = e
-      go false e = let q = listed x ∙ ap {B = ℕ} (λ b. cond b 1 0) e in absurd (omega (arith, h, q))
-
-  pub place_open : (i : ℕ) → i < length xs → is_open (ls (at xs i)) ≡ true
-  place_open i h = listed_open (at xs i) (passes (same (at xs i)) xs i h (same_self (at xs i)))
-
-  -- what is open is listed
-  open_listed : (x : Arrival) → is_open (ls x) ≡ true → (j : ℕ) × (j < length xs) × (x ≡ at xs j)
-  open_listed x h =
-      let q = listed x ∙ ap {B = ℕ} (λ b. cond b 1 0) h in
-      let r = one_passes (same x) xs (omega (arith, q)) in
-      (r.0, r.1, same_is x (at xs r.0) r.2)
-
-  listed_once : (x : Arrival) → count_by (same x) xs ≤ 1
-  listed_once x = go (is_open (ls x)) refl
-    where
-      go : (b : Bool) → is_open (ls x) ≡ b → count_by (same x) xs ≤ 1
-      go true e = let q = listed x ∙ ap {B = ℕ} (λ b. cond b 1 0) e in omega (arith, q)
-      go false e = let q = listed x ∙ ap {B = ℕ} (λ b. cond b 1 0) e in omega (arith, q)
-
-  least_found : (o : Ops V) (b : ℕ × V) → IsBest o ls xs (length xs) (Some b) → IsLeast o ls (at xs b.0) b.1
-  least_found o b h = record {
-    known = h.1;
-    unsettled = is_open_not (ls (at xs b.0)) (place_open b.0 h.0);
-    least = λ y w d k. let r = open_listed y (open_is (ls y) w d k) in h.2 r.0 w r.1 (ap (λ z. cost_of (ls z)) (sym r.2) ∙ k);
-  }
-
-  pub least_at : (o : Ops V) (b : ℕ × V) (x : Arrival) → IsBest o ls xs (length xs) (Some b) → x ≡ at xs b.0 → IsLeast o ls x b.1
-  least_at o b x h e = subst (λ (z : Arrival). IsLeast o ls z b.1) (sym e) (least_found o b h)
-
-  pub none_found : (o : Ops V) → IsBest o ls xs (length xs) None → NoneOpen ls
-  none_found o h = λ y w d k. let r = open_listed y (open_is (ls y) w d k) in none-some _ (sym (h r.0 r.1) ∙ ap (λ z. cost_of (ls z)) (sym r.2) ∙ k)
-
-  -- there is room for one more
-  pub room : (n : Counts) → ((x : Arrival) → is_open (ls x) ≡ true → IsInside n x) → (y : Arrival) → IsInside n y → is_open (ls y) ≡ false → length xs < arrival_entries n
-  room n inside y hy closed =
-      let none = none_passes (same y) xs (listed y ∙ ap (λ b. cond b 1 0) closed) in
-      few_arrivals n (y ∷ xs) (hy, all_counts (IsInside n) xs (λ x h. inside x (listed_open x h))) (IsDistinct-cons same y xs none (distinct_counts xs listed_once))
-
-  module _ (ms : Labels V) (x : Arrival) where
-    -- an arrival is settled, and listed no more
-    pub listed_without : (i : ℕ) (d : Arrival) → i < length xs → x ≡ at xs i → Written ls ms x (settle (ls x)) → Listed ms (swap_remove xs i d)
-    listed_without i d h e w y =
-        let total = sum_by-swap_remove (λ z. cond (same y z) 1 0) xs i d h in
-        let here : slice_index_or xs i d ≡ x = get_or_default xs i d nowhere h ∙ sym e in
-        let one = ap {B = ℕ} (λ z. cond (same y z) 1 0) here in
-        ⊎_elim
-        (λ q.
-        let was = listed y ∙ ap {B = ℕ} (λ z. cond (is_open (ls z)) 1 0) (q.0 ∙ e) ∙ ap {B = ℕ} (λ b. cond b 1 0) (place_open i h) in
-        let it = ap {B = ℕ} (λ z. cond (same y z) 1 0) (sym q.0) ∙ ap {B = ℕ} (λ b. cond b 1 0) (same_self y) in
-        let now = ap {B = ℕ} (λ l. cond (is_open l) 1 0) q.1 ∙ ap {B = ℕ} (λ b. cond b 1 0) (settle_open (ls x)) in
-        omega (arith, total, one, was, it, now))
-        (λ q.
-        let was = listed y in
-        let it = ap {B = ℕ} (λ b. cond b 1 0) (not_same y x q.0) in
-        let now = ap {B = ℕ} (λ l. cond (is_open l) 1 0) q.1 in
-        omega (arith, total, one, was, it, now))
-        (label_after w y)
-
-    -- an arrival becomes known, and is listed
-    pub listed_with : (k : Known V) → ls x ≡ None → k.settled ≡ false → Written ls ms x (Some k) → Listed ms (xs ++ x ∷ [])
-    listed_with k e d w y =
-        let total = sum_by-append (λ z. cond (same y z) 1 0) xs (x ∷ []) in
-        let was = listed y in
-        ⊎_elim
-        (λ q.
-        let none = ap {B = ℕ} (λ l. cond (is_open l) 1 0) (ap ls q.0 ∙ e) in
-        let it = ap {B = ℕ} (λ z. cond (same y z) 1 0) (sym q.0) ∙ ap {B = ℕ} (λ b. cond b 1 0) (same_self y) in
-        let now = ap {B = ℕ} (λ l. cond (is_open l) 1 0) q.1 ∙ ap {B = ℕ} (λ b. cond (not b) 1 0) d in
-        omega (arith, total, was, none, it, now))
-        (λ q.
-        let it = ap {B = ℕ} (λ b. cond b 1 0) (not_same y x q.0) in
-        let now = ap {B = ℕ} (λ l. cond (is_open l) 1 0) q.1 in
-        omega (arith, total, was, it, now))
-        (label_after w y)
-
-    -- an open arrival stays so
-    pub listed_still : (k : Known V) → is_open (ls x) ≡ true → k.settled ≡ false → Written ls ms x (Some k) → Listed ms xs
-    listed_still k e d w y =
-        ⊎_elim
-        (λ q. listed y ∙ ap {B = ℕ} (λ z. cond (is_open (ls z)) 1 0) q.0 ∙ ap {B = ℕ} (λ b. cond b 1 0) e ∙ sym (ap {B = ℕ} (λ b. cond (not b) 1 0) d) ∙ sym (ap {B = ℕ} (λ l. cond (is_open l) 1 0) q.1))
-        (λ q. listed y ∙ sym (ap {B = ℕ} (λ l. cond (is_open l) 1 0) q.1))
-        (label_after w y)
+pub settle_costs : {V : Type 0} (l : Option (Known V)) (k : Known V) → settle l ≡ Some k → cost_of l ≡ Some k.cost
+settle_costs None k e = absurd (none-some _ e)
+settle_costs (Some h) k e = ap cost_of e
 
 open_known : {V : Type 0} (l : Option (Known V)) → is_open l ≡ true → l ≡ None → ⊥
 open_known None h e = true≢false (sym h)
 open_known (Some k) h e = none-some _ (sym e)
 
--- in the frontier of a table, there is room for an arrival of the network that is unknown
-pub room_for : {V : Type 0} (n : Counts) (begun : List Bool) (table : List (Option (Known V))) (xs : List Arrival) → Counted n → Listed (begun_in n begun table) xs → (y : Arrival) → IsInside n y → begun_in n begun table y ≡ None → length xs < 1024
-room_for n begun table xs counted listed y hy none =
-    let r = room (begun_in n begun table) xs listed n (λ x h. known_inside n begun table x (open_known (begun_in n begun table x) h)) y hy (ap is_open none) in
-    let m = few_entries n counted in
-    omega (arith, r, m)
+at_most_costs : {V : Type 0} (o : Ops V) (h k : Option (Known V)) (v w : V) → label_at_most o h k ≡ true → cost_of h ≡ Some v → cost_of k ≡ Some w → o.at_most v w ≡ true
+at_most_costs o h None v w t e f = absurd (none-some _ f)
+at_most_costs o None (Some k) v w t e f = absurd (none-some _ e)
+at_most_costs o (Some h) (Some k) v w t e f = ap₂ o.at_most (sym (same_Some _ _ e)) (sym (same_Some _ _ f)) ∙ t
 
--- the same, as the code finds it: an arrival taken off the list, and its label
-pub settled_listed : {V : Type 0} (ls ms : Labels V) (xs ys : List Arrival) (i : ℕ) (x d : Arrival) (l m : Option (Known V)) → Listed ls xs → i < length xs → x ≡ at xs i → ys ≡ swap_remove xs i d
-    → m ≡ ls x → l ≡ settle m → ms x ≡ l → ((y : Arrival) → y ≢ x → ms y ≡ ls y) → Listed ms ys
-settled_listed ls ms xs ys i x d l m listed h e f p q r others =
-    subst (Listed ms) (sym f) (listed_without ls xs listed ms x i d h e (record { there = r ∙ q ∙ ap settle p; others = others }))
+same_or : (x y : Arrival) → (x ≡ y) ⊎ (x ≢ y)
+same_or x y = ⊎_elim (λ p. ⊎_elim (λ q. inl (ap₂ arrival p q)) (λ ne. inr (λ e. ne (ap (λ z. z.channel) e))) (cases_eq x.channel y.channel)) (λ ne. inr (λ e. ne (ap (λ z. z.node) e))) (cases_eq x.node y.node)
 
-pub known_listed : {V : Type 0} (ls ms : Labels V) (xs ys : List Arrival) (x : Arrival) (k : Known V) (l : Option (Known V)) → Listed ls xs → l ≡ ls x → l ≡ None → k.settled ≡ false → ys ≡ xs ++ x ∷ []
-    → ms x ≡ Some k → ((y : Arrival) → y ≢ x → ms y ≡ ls y) → Listed ms ys
-known_listed ls ms xs ys x k l listed e f d g r others =
-    subst (Listed ms) (sym g) (listed_with ls xs listed ms x k (sym e ∙ f) d (record { there = r; others = others }))
+abbrev entry : Counts → Arrival → ℕ
+entry n x = arrival_entry n x.node x.channel
 
--- where no row is begun, nothing is known, and nothing listed
-pub none_listed : {V : Type 0} (n : Counts) (begun : List Bool) (table : List (Option (Known V))) (xs : List Arrival) → begun ≡ replicate 64 false → xs ≡ [] → Listed (begun_in n begun table) xs
-none_listed n begun table xs e f x = ap (count_by (same x)) f ∙ sym (ap {B = ℕ} (λ l. cond (is_open l) 1 0) (none_begun n begun table x e))
+-- each entry is that of an arrival
+entry_of : (n : Counts) (e : ℕ) → e < arrival_entries n → (x : Arrival) × IsInside n x × (entry n x ≡ e)
+entry_of n e h =
+    let some : 0 < n.channels = ⊎_elim (λ l. l) (λ l. let z : n.channels ≡ 0 = omega (arith, l) in absurd (let q = subst (λ (c : ℕ). e < n.nodes * c) z h in omega (arith, q))) (cases_lt 0 n.channels) in
+    let split : n.channels * (e / n.channels) + e % n.channels ≡ e = omega arith in
+    let small : e % n.channels < n.channels = omega arith in
+    let row : e / n.channels < n.nodes = ⊎_elim (λ l. l) (λ l. let m = mul-le-mul_right n.channels l in absurd (omega (arith, m, split, h))) (cases_lt (e / n.channels) n.nodes) in
+    (arrival (e / n.channels) (e % n.channels), (row, small), omega (arith, split))
 
--- what is taken off the list is an arrival of the network
-pub place_inside : {V : Type 0} (n : Counts) (begun : List Bool) (table : List (Option (Known V))) (xs : List Arrival) (i : ℕ) (x : Arrival) → Listed (begun_in n begun table) xs → i < length xs → x ≡ at xs i → IsInside n x
-place_inside n begun table xs i x listed h e =
-    known_inside n begun table x (open_known (begun_in n begun table x) (ap (λ z. is_open (begun_in n begun table z)) e ∙ place_open (begun_in n begun table) xs listed i h))
+-- an open arrival's label stands in its entry
+shown : {V : Type 0} (n : Counts) (begun : List Bool) (table : List (Option (Known V))) (x : Arrival) → IsInside n x → is_open (begun_in n begun table x) ≡ true → slice_index_or table (entry n x) None ≡ begun_in n begun table x
+shown n begun table x h e = go (slice_index_or begun x.node false) refl
+  where
+    go : (b : Bool) → slice_index_or begun x.node false ≡ b → slice_index_or table (entry n x) None ≡ begun_in n begun table x
+    go true p = grind (arith, common_steps, nat_tests)
+    go false p = absurd (true≢false (sym e ∙ ap is_open (ap (λ b. cond b (labels_in n table x) None) p)))
+
+module _ {V : Type 0} (n : Counts) (begun : List Bool) (table : List (Option (Known V))) (slots seats : List ℕ) (c : ℕ) (listed : Listed n (begun_in n begun table) slots seats c) where
+  -- where none is held, none is open
+  pub none_open : c ≡ 0 → NoneOpen (begun_in n begun table)
+  none_open z y w d k =
+      let opened = open_is (begun_in n begun table y) w d k in
+      let inside = known_inside n begun table y (open_known _ opened) in
+      let held = listed y inside ∙ opened in
+      grind (arith, nat_tests, held, z)
+
+  module _ (seated : Seated (arrival_entries n) slots seats c) where
+    -- what is held is the entry of an open arrival
+    held_open : (e : ℕ) → Holds slots c e → (x : Arrival) × IsInside n x × (entry n x ≡ e) × (is_open (begun_in n begun table x) ≡ true)
+    held_open e h =
+        let s = seat (arrival_entries n) slots seats c e seated h in
+        let r = entry_of n e s.0 in
+        (r.0, r.1, r.2, sym (listed r.0 r.1) ∙ holds_held (arrival_entries n) slots seats c (entry n r.0) seated (subst (Holds slots c) (sym r.2) h))
+
+    pub open_held : (x : Arrival) → IsInside n x → is_open (begun_in n begun table x) ≡ true → Holds slots c (entry n x)
+    open_held x h e = held_holds (arrival_entries n) slots seats c (entry n x) seated (listed x h ∙ e)
+
+    pub entry_open : (x : Arrival) (e : ℕ) → IsInside n x → entry n x ≡ e → Holds slots c e → is_open (begun_in n begun table x) ≡ true
+    entry_open x e h q held = sym (listed x h) ∙ holds_held (arrival_entries n) slots seats c (entry n x) seated (subst (Holds slots c) (sym q) held)
+
+    -- an arrival that is unknown is not held
+    pub unknown_fresh : (x : Arrival) (e : ℕ) → IsInside n x → e ≡ entry n x → begun_in n begun table x ≡ None → Holds slots c e → ⊥
+    unknown_fresh x e h q none held = open_known _ (entry_open x e h (sym q) held) none
+
+    -- an entry that is at most every other is that of a least open arrival
+    pub least_is : (o : Ops V) (x : Arrival) (e : ℕ) → IsInside n x → entry n x ≡ e → Holds slots c e → ((y : ℕ) → Holds slots c y → entry_at_most o table e y ≡ true) → (v : V) → cost_of (begun_in n begun table x) ≡ Some v → IsLeast o (begun_in n begun table) x v
+    least_is o x e h q held least v known =
+        let opened = entry_open x e h q held in
+        record {
+          known = known;
+          unsettled = is_open_not _ opened;
+          least = λ y w d k.
+              let other = open_is (begun_in n begun table y) w d k in
+              let inside = known_inside n begun table y (open_known _ other) in
+              at_most_costs o (begun_in n begun table x) (begun_in n begun table y) v w
+              (ap₂ (label_at_most o) (sym (shown n begun table x h opened) ∙ ap (λ i. slice_index_or table i None) q) (sym (shown n begun table y inside other)) ∙ least (entry n y) (open_held y inside other))
+              known k;
+        }
+
+    -- the label of x is written, and no other
+    module _ (begun' : List Bool) (table' : List (Option (Known V))) (x : Arrival) (hx : IsInside n x) (others : (y : Arrival) → y ≢ x → begun_in n begun' table' y ≡ begun_in n begun table y) where
+      kept : (e : ℕ) → Holds slots c e → e ≢ entry n x → slice_index_or table' e None ≡ slice_index_or table e None
+      kept e held ne =
+          let r = held_open e held in
+          let same = others r.0 (λ q. ne (sym r.2 ∙ ap (entry n) q)) in
+          ap (λ i. slice_index_or table' i None) (sym r.2) ∙ shown n begun' table' r.0 r.1 (ap is_open same ∙ r.3) ∙ same ∙ sym (shown n begun table r.0 r.1 r.3) ∙ ap (λ i. slice_index_or table i None) r.2
+
+      -- a heap of what was held, without x, stays one
+      pub heap_kept : (o : Ops V) (ys : List ℕ) (m : ℕ) → ((e : ℕ) → Holds ys m e → Holds slots c e × (e ≢ entry n x)) → IsHeap (entry_at_most o table) ys m → IsHeap (entry_at_most o table') ys m
+      heap_kept o ys m still heap =
+          heap_agrees (entry_at_most o table) (entry_at_most o table') ys m
+          (λ a b p q t. let f = still a p in let g = still b q in ap₂ (label_at_most o) (kept a f.0 f.1) (kept b g.0 g.1) ∙ t) heap
+
+      other_entry : (y : Arrival) → IsInside n y → y ≢ x → entry n y ≢ entry n x
+      other_entry y hy ne = entry_apart n y x hy hx ne
+
+      module _ (ys seats' : List ℕ) (m : ℕ) (sits : Seated (arrival_entries n) ys seats' m) where
+        -- an arrival is settled, and held no more
+        pub listed_settled : (e : ℕ) → entry n x ≡ e → Beside ys m e slots c → (Holds ys m e → ⊥) → begun_in n begun' table' x ≡ settle (begun_in n begun table x) → Listed n (begun_in n begun' table') ys seats' m
+        listed_settled e q beside gone is y hy = ⊎_elim
+            (λ d. ap (λ z. is_held ys seats' m (entry n z)) d
+            ∙ not_held (arrival_entries n) ys seats' m (entry n x) sits (λ h. gone (subst (Holds ys m) q h))
+            ∙ sym (settle_open (begun_in n begun table x)) ∙ ap is_open (sym is) ∙ ap (λ z. is_open (begun_in n begun' table' z)) (sym d))
+            (λ ne. held_same (arrival_entries n) slots seats ys seats' c m (entry n y) seated sits
+            (λ h. ⊎_elim (λ d. absurd (other_entry y hy ne (d ∙ sym q))) (λ k. k) (beside.only (entry n y) h))
+            (beside.kept (entry n y))
+            ∙ listed y hy ∙ ap is_open (sym (others y ne)))
+            (same_or y x)
+
+        -- an arrival becomes known, and is held
+        pub listed_added : (e : ℕ) (k : Known V) → e ≡ entry n x → Beside slots c e ys m → k.settled ≡ false → begun_in n begun' table' x ≡ Some k → Listed n (begun_in n begun' table') ys seats' m
+        listed_added e k q beside d is y hy = ⊎_elim
+            (λ p. ap (λ z. is_held ys seats' m (entry n z)) p
+            ∙ holds_held (arrival_entries n) ys seats' m (entry n x) sits (subst (Holds ys m) q beside.new)
+            ∙ sym (ap not d) ∙ ap is_open (sym is) ∙ ap (λ z. is_open (begun_in n begun' table' z)) (sym p))
+            (λ ne. held_same (arrival_entries n) slots seats ys seats' c m (entry n y) seated sits
+            (beside.kept (entry n y))
+            (λ h. ⊎_elim (λ p. absurd (other_entry y hy ne (p ∙ q))) (λ k. k) (beside.only (entry n y) h))
+            ∙ listed y hy ∙ ap is_open (sym (others y ne)))
+            (same_or y x)
+
+        -- an open arrival stays so
+        pub listed_still : (k : Known V) → Same slots c ys m → is_open (begun_in n begun table x) ≡ true → k.settled ≡ false → begun_in n begun' table' x ≡ Some k → Listed n (begun_in n begun' table') ys seats' m
+        listed_still k same opened d is y hy =
+            held_same (arrival_entries n) slots seats ys seats' c m (entry n y) seated sits (within_holds _ _ _ _ same.0 (entry n y)) (within_holds _ _ _ _ same.1 (entry n y))
+            ∙ listed y hy
+            ∙ ⊎_elim
+            (λ p. ap (λ z. is_open (begun_in n begun table z)) p ∙ opened ∙ sym (ap not d) ∙ ap is_open (sym is) ∙ ap (λ z. is_open (begun_in n begun' table' z)) (sym p))
+            (λ ne. ap is_open (sym (others y ne)))
+            (same_or y x)
+
+      -- where it costs no more than before, its entry may have to rise
+      pub was_heap : (o : Ops V) → Laws o → (e : ℕ) (k : Known V) → e ≡ entry n x → is_open (begun_in n begun table x) ≡ true → k.settled ≡ false → begun_in n begun' table' x ≡ Some k → label_at_most o (Some k) (begun_in n begun table x) ≡ true
+          → IsHeap (entry_at_most o table) slots c → WasHeap (entry_at_most o table') slots c e
+      was_heap o laws e k q opened d is less heap =
+          let old : slice_index_or table e None ≡ begun_in n begun table x = ap (λ i. slice_index_or table i None) q ∙ shown n begun table x hx opened in
+          let new : slice_index_or table' e None ≡ Some k = ap (λ i. slice_index_or table' i None) q ∙ shown n begun' table' x hx (ap is_open is ∙ ap not d) ∙ is in
+          record {
+            old = entry_at_most o table;
+            order = IsOrder-entry_at_most laws table;
+            lowers = record {
+              others = λ a b p r u v t. ap₂ (label_at_most o) (kept a p (λ z. u (z ∙ sym q))) (kept b r (λ z. v (z ∙ sym q))) ∙ t;
+              less = λ b r v t. ap₂ (label_at_most o) new (kept b r (λ z. v (z ∙ sym q))) ∙ transitive laws (Some k) (begun_in n begun table x) (slice_index_or table b None) less (ap (λ l. label_at_most o l (slice_index_or table b None)) (sym old) ∙ t);
+            };
+            heap = heap;
+          }
+
+-- where no row is begun, nothing is known, and nothing held
+pub none_listed : {V : Type 0} (n : Counts) (begun : List Bool) (table : List (Option (Known V))) (slots seats : List ℕ) → begun ≡ replicate 64 false → Listed n (begun_in n begun table) slots seats 0
+none_listed n begun table slots seats e x h = let none = ap is_open (none_begun n begun table x e) in grind (arith, nat_tests, none)

@@ -7,10 +7,9 @@ use Rattle.network.specs.declared.counts.Counts.{Counts}
 use Rattle.search.specs.declared.arrival.Arrival.{Arrival}
 use Rattle.search.specs.Labels.{Labels, IsInside, arrival, is_settled}
 use Rattle.search.specs.Invariants.{same}
-use Rattle.search.specs.Frontiers.{at}
 use Rattle.search.proofs.Routes.{same_is, same_self}
 use Rattle.search.proofs.Frontiers.{last_or}
-use Rattle.search.proofs.Counts.{one_passes}
+use Rattle.search.proofs.Counts.{at, one_passes}
 
 -- the arrivals at a node on the first channels, and at the first nodes
 abbrev row : ℕ → ℕ → List Arrival

@@ -1,6 +1,7 @@
 pub mod Rows
 pub mod Routes
 pub mod Proposals
+pub mod Aims
 pub mod Settles
 pub mod Ends
 pub mod Counting

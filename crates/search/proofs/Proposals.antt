@@ -15,8 +15,12 @@ use Rattle.semilightpath.proofs.Prices.{step_upward}
 use Rattle.search.specs.declared.arrival.Arrival.{Arrival}
 use Rattle.search.specs.declared.label.Known.{Known}
 use Rattle.search.specs.Labels.{Labels, cost_of, is_settled, better, back, arrival_of, point_of}
-use Rattle.search.specs.Invariants.{KnownAtMost, IsSettled, Route, Sound, Ready, Moved, Written, proposal}
+use Rattle.search.specs.Invariants.{KnownAtMost, IsSettled, Route, Sound, Ready, Moved, Written}
 use Rattle.search.proofs.Routes.{cases_same, route_map, route_more}
+
+-- what a path that stands at a, at the cost v, and takes a step, proposes where it arrives
+abbrev pub proposal : {V : Type 0} → Ops V → Scene → Point → V → Step → Known V
+proposal o g a v e = record { cost = after_step o g a.entered v e; step = e; from = a; settled = false }
 
 -- of two tests, the other holds
 pub other : (a b : Bool) → a ≡ false → (a || b) ≡ true → b ≡ true

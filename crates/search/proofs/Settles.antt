@@ -4,13 +4,17 @@ use Rattle.std.proofs.lemmas.Option.{none-some, same_Some}
 use Rattle.std.proofs.lemmas.Bool.{true≢false}
 use Rattle.cost.specs.Laws.{Ops, Laws}
 use Rattle.cost.proofs.Runs.{reflexive}
+use Rattle.network.specs.declared.step.Step.{Step}
+use Rattle.semilightpath.specs.declared.point.Point.{Point}
 use Rattle.semilightpath.specs.Scenes.{Scene}
+use Rattle.semilightpath.specs.Paths.{begin}
 use Rattle.search.specs.declared.arrival.Arrival.{Arrival}
 use Rattle.search.specs.declared.label.Known.{Known}
-use Rattle.search.specs.Labels.{Labels, cost_of, is_settled, settle, back, arrival_of, point_of}
-use Rattle.search.specs.Invariants.{KnownAtMost, IsSettled, Sound, Covers, Ready, Moved, Written, IsLeast, Searching}
+use Rattle.search.specs.Labels.{Labels, cost_of, is_settled, settle, back, point_of}
+use Rattle.search.specs.Invariants.{KnownAtMost, IsSettled, Sound, Covered, Covers, Ready, Moved, Written, IsLeast, Searching}
 use Rattle.search.proofs.Routes.{route_map}
 use Rattle.search.proofs.Proposals.{label_after, known_moved}
+use Rattle.search.proofs.Aims.{covered_kept}
 
 cost_settle : {V : Type 0} (l : Option (Known V)) → cost_of (settle l) ≡ cost_of l
 cost_settle None = refl
@@ -24,8 +28,8 @@ pub is_settle : {V : Type 0} (l : Option (Known V)) (v : V) → cost_of l ≡ So
 is_settle None v h = absurd (none-some _ h)
 is_settle (Some k) v h = refl
 
-module _ {V : Type 0} {o : Ops V} (laws : Laws o) (g : Scene) (s : ℕ) (ls ms : Labels V) (x : Arrival) (v : V)
-    (searching : Searching o g s ls) (least : IsLeast o ls x v) (written : Written ls ms x (settle (ls x))) where
+module _ {V : Type 0} {o : Ops V} (laws : Laws o) (g : Scene) (s t : ℕ) (ls ms : Labels V) (x : Arrival) (v : V)
+    (searching : Searching o g s t ls) (least : IsLeast o ls x v) (written : Written ls ms x (settle (ls x))) where
   after : (y : Arrival) → ((y ≡ x) × (ms y ≡ settle (ls x))) ⊎ ((y ≢ x) × (ms y ≡ ls y))
   after y = label_after written y
 
@@ -73,17 +77,20 @@ module _ {V : Type 0} {o : Ops V} (laws : Laws o) (g : Scene) (s : ℕ) (ls ms :
         (λ d'. searching.sound.order y x w v d' least.unsettled (sym (costs_stay y) ∙ h) least.known) (was y d);
   }
 
-  known_then : (y : Arrival) (w : V) → KnownAtMost o ls y w → KnownAtMost o ms y w
+  pub known_then : (y : Arrival) (w : V) → KnownAtMost o ls y w → KnownAtMost o ms y w
   known_then y w u = (u.0, costs_stay y ∙ u.1, u.2)
 
-  pub searching_then : (ns : Labels V) → Moved o ms ns → Ready o g s ns (point_of x) v → Covers o g ns (point_of x) v → Searching o g s ns
+  covered_then : (ns : Labels V) → Moved o ms ns → (a : Point) (w : V) (e : Step) → Covered o g t ls a w e → Covered o g t ns a w e
+  covered_then ns moved a w e c = covered_kept o ms ns (known_moved laws moved) g t a w e (covered_kept o ls ms known_then g t a w e c)
+
+  pub searching_then : (ns : Labels V) → Moved o ms ns → Ready o g s ns (point_of x) v → Covers o g t ns (point_of x) v → Searching o g s t ns
   searching_then ns moved ready covers = record {
     sound = ready.sound;
-    first = λ e goes. known_moved laws moved (arrival_of g.net e) _ (known_then (arrival_of g.net e) _ (searching.first e goes));
+    first = λ e goes. covered_then ns moved (begin s) o.start e (searching.first e goes);
     closed = λ y w d h.
         let d' : IsSettled ms y = sym (moved.flags y) ∙ d in
         let h' : cost_of (ls y) ≡ Some w = sym (costs_stay y) ∙ sym (ap cost_of (moved.fixed y d')) ∙ h in
         ⊎_elim
-        (λ e. subst (λ (z : V). Covers o g ns (point_of y) z) (is_v y w e h') (subst (λ (z : Arrival). Covers o g ns (point_of z) v) (sym e) covers))
-        (λ t e goes. known_moved laws moved (arrival_of g.net e) _ (known_then (arrival_of g.net e) _ (searching.closed y w t h' e goes))) (was y d');
+        (λ e. subst (λ (z : V). Covers o g t ns (point_of y) z) (is_v y w e h') (subst (λ (z : Arrival). Covers o g t ns (point_of z) v) (sym e) covers))
+        (λ q e goes. covered_then ns moved (point_of y) w e (searching.closed y w q h' e goes)) (was y d');
   }

@@ -6,11 +6,11 @@ use Rattle.search.specs.Labels.{Labels}
 use Rattle.search.specs.Tables.{begun_in}
 
 -- what is known
-abbrev pub labels_of : {V : Type 0} → Work V → Labels V
+abbrev pub labels_of : {K V : Type 0} {kind : _} {display : _} → Work K V kind display → Labels V
 labels_of w = begun_in w.extent.counts w.begun w.labels.now
 
 -- the same network and the same lent table, and what lies beyond the entries that are needed is the same
-pub record KeepsRest {V : Type 0} (a b : Work V) : Type 0 where
+pub record KeepsRest {K V : Type 0} {kind : _} {display : _} (a b : Work K V kind display) : Type 0 where
   pub extent : b.extent ≡ a.extent
   pub name : b.labels.ghost_name ≡ a.labels.ghost_name
   pub long : length b.labels.now ≡ length a.labels.now

@@ -1,7 +1,7 @@
 use semilightpath::point::Point;
 
 // An arrival at a node on a channel.
-#[derive(Clone, Copy, Default)]
+#[derive(Clone, Copy)]
 pub(crate) struct Arrival {
     pub(crate) node: u8,
     pub(crate) channel: u8,

@@ -5,6 +5,7 @@ ghost use Rattle.semilightpath.specs.Scenes.{scene};
 ghost use Rattle.search.specs.Answers.{refusal, IsOutcome, Answers};
 
 use super::found::Found;
+use super::goal::Goal;
 use super::label::Label;
 use super::relax::{Stand, try_steps};
 use super::run::run;
@@ -60,11 +61,22 @@ fn cheapest<K: Kind, F: Fares>(
     ensures beyond { drop (arrival_entries (net network.now).counts) labels.new ≡ drop (arrival_entries (net network.now).counts) labels.old }
 {
     let mut work = Work::new(network.extent(), labels);
+    let mut goal = Goal {
+        node: to,
+        bound: None,
+    };
     let point = Point {
         node: from,
         entered: None,
     };
     let cost = kind.start();
-    try_steps(kind, network, fares, &mut work, Stand { point, cost });
-    run(kind, network, fares, &mut work, to)
+    try_steps(
+        kind,
+        network,
+        fares,
+        &mut work,
+        &mut goal,
+        Stand { point, cost },
+    );
+    run(kind, network, fares, &mut work, &mut goal)
 }

@@ -3,8 +3,10 @@
 
 mod arrival;
 mod cheapest;
+mod costs;
 pub mod found;
 mod frontier;
+mod goal;
 pub mod label;
 pub mod path;
 mod relax;

@@ -1,5 +1,5 @@
 ghost use Rattle.std.specs.Prelude.{◌≡◌, ◌≢◌, ℕ, ◌+◌, ◌<◌, ◌≤◌, true, false, cond, ◌&&◌, None, length, drop, slice_index_or, nat_le, nat_lt};
-ghost use Rattle.network.specs.Tariffs.{arrival_entries};
+ghost use Rattle.network.specs.Tariffs.{arrival_entries, arrival_entry};
 ghost use Rattle.search.specs.declared.arrival.Arrival.{Arrival};
 ghost use Rattle.search.specs.Labels.{IsInside, labels_in};
 ghost use Rattle.search.specs.Tables.{begun_in};
@@ -36,6 +36,35 @@ pub(crate) fn label<V: Copy>(
     }
 }
 
+// The entry of an arrival of the network.
+#[tactic(auto, using(crate::proofs::Rows::few_entries))]
+pub(crate) fn entry_of(extent: Extent, arrival: Arrival) -> usize
+    requires { IsInside extent.counts arrival }
+    ensures entry { result ≡ arrival_entry extent.counts arrival.node arrival.channel }
+    ensures within { result < arrival_entries extent.counts }
+    ensures few { result < 1024 }
+{
+    usize::from(arrival.node) * extent.counts().channels + usize::from(arrival.channel)
+}
+
+// The label of an arrival of the network, in a table that has room for all of them.
+pub(crate) fn label_inside<V: Copy>(
+    extent: Extent,
+    begun: &[bool; 64],
+    labels: &[Label<V>],
+    arrival: Arrival,
+) -> Label<V>
+    requires wide { arrival_entries extent.counts ≤ length labels.now }
+    requires inside { IsInside extent.counts arrival }
+    ensures { result ≡ begun_in extent.counts begun.now labels.now arrival }
+{
+    let node = usize::from(arrival.node);
+    if !begun[node] {
+        return None;
+    }
+    labels[entry_of(extent, arrival)]
+}
+
 // Writes the label of an arrival.
 #[tactic(auto, using(crate::proofs::Rows::written_label, crate::proofs::Rows::other_label))]
 pub(crate) fn write<V: Copy>(
@@ -53,11 +82,9 @@ pub(crate) fn write<V: Copy>(
     ensures beyond { drop (arrival_entries extent.counts) labels.new ≡ drop (arrival_entries extent.counts) labels.old }
 {
     let node = usize::from(arrival.node);
-    let channel = usize::from(arrival.channel);
-    if let Some(entry) = extent.arrival_entry(node, channel) {
-        begin(extent, begun, labels, node);
-        labels[entry] = label;
-    }
+    begin(extent, begun, labels, node);
+    let entry = entry_of(extent, arrival);
+    labels[entry] = label;
 }
 
 // Begins a row, if it is not begun.

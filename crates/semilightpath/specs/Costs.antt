@@ -7,6 +7,7 @@ use Rattle.cost.specs.Laws.{Ops}
 use Rattle.cost.specs.Charges.{after_all}
 use Rattle.cost.specs.declared.charge.Charge.{Charge}
 use Rattle.cost.specs.declared.charge.Charge.TheVariants.{Span, Conversion}
+use Rattle.semilightpath.specs.declared.point.Point.{Point}
 use Rattle.semilightpath.specs.Scenes.{Scene}
 use Rattle.semilightpath.specs.Paths.{tail_of}
 
@@ -18,6 +19,10 @@ largest_tariff = 65534
 abbrev pub conversion : Net → ℕ → Option ℕ → ℕ → List Charge
 conversion w u None c = []
 conversion w u (Some b) c = cond (b == c) [] (Conversion (unwrap_or (converter_of w u b c) largest_tariff) ∷ [])
+
+-- a value after a path that stands at a point was left on a channel
+abbrev pub left : {V : Type 0} → Ops V → Net → Point → V → ℕ → V
+left o w a v c = after_all o v (conversion w a.node a.entered c)
 
 -- what one more step charges, after the channel that was entered on
 abbrev pub step_charges : Scene → Option ℕ → Step → List Charge

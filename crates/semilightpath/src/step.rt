@@ -1,10 +1,9 @@
 ghost use Rattle.std.specs.Prelude.{◌≡◌, ◌↔◌, IsTrue};
-ghost use Rattle.std.specs.Option.{SomeIff};
 ghost use Rattle.network.specs.Net.{net};
 ghost use Rattle.cost.specs.Charges.{after_all};
 ghost use Rattle.semilightpath.specs.Scenes.{scene};
 ghost use Rattle.semilightpath.specs.Paths.{tail_of, head_of, GoesOn, Joins};
-ghost use Rattle.semilightpath.specs.Costs.{conversion, after_step};
+ghost use Rattle.semilightpath.specs.Costs.{conversion, left, after_step};
 
 use super::fares::Fares;
 use super::point::Point;
@@ -80,6 +79,28 @@ fn converted<K: Kind>(
     kind.after_conversion(value, tariff.unwrap_or(LARGEST_TARIFF))
 }
 
+// The value after a path that stands at a point has left it on a channel, whether or not it can:
+// changing channels is charged.
+pub fn left<K: Kind>(
+    kind: &K,
+    network: &Network,
+    value: K::Value,
+    point: Point,
+    channel: u8,
+) -> K::Value
+    ensures { result ≡ left K.ops (net network.now) point value channel }
+{
+    let node = usize::from(point.node);
+    converted(kind, network, value, node, point.entered, channel)
+}
+
+// Whether a path that stands at a point can leave it on a channel.
+pub fn can_leave(network: &Network, point: Point, channel: u8) -> bool
+    ensures { IsTrue result ↔ Joins (net network.now) point channel }
+{
+    joins(network, usize::from(point.node), point.entered, channel)
+}
+
 // The value after what one more step charges, whether or not a path can go on by it.
 pub fn priced<K: Kind, F: Fares>(
     kind: &K,
@@ -94,21 +115,4 @@ pub fn priced<K: Kind, F: Fares>(
     let node = usize::from(ends(network, step).tail);
     let converted = converted(kind, network, value, node, entered, step.channel);
     kind.after_span(converted, fares.fare(step).unwrap_or(LARGEST_TARIFF))
-}
-
-// The value after one more step, where a path that stands at a point can go on by it.
-pub fn after_step<K: Kind, F: Fares>(
-    kind: &K,
-    network: &Network,
-    fares: &F,
-    value: K::Value,
-    point: Point,
-    step: Step,
-) -> Option<K::Value>
-    ensures { SomeIff result (GoesOn (scene (net network.now) (F.fare fares.now)) point step) (after_step K.ops (scene (net network.now) (F.fare fares.now)) point.entered value step) }
-{
-    if !goes_on(network, fares, usize::from(point.node), point.entered, step) {
-        return None;
-    }
-    Some(priced(kind, network, fares, value, point.entered, step))
 }

@@ -1,8 +1,10 @@
-use Rattle.std.proofs.Common.{refl, arith}
+use Rattle.std.proofs.Common.{None, refl, subst, arith}
 use Rattle.network.specs.Net.{net}
 use Rattle.semilightpath.specs.Scenes.{scene}
+use Rattle.search.specs.declared.goal.Goal.{Goal}
+use Rattle.search.specs.Answers.{IsOutcome}
 use Rattle.search.specs.Works.{labels_of}
-use Rattle.search.proofs.Runs.{first_searches, first_not_yet}
+use Rattle.search.proofs.Runs.{first_searches, first_bounds, first_not_yet}
 use Rattle.search.proofs.cheapest.cheapest.Goals as goal
 
 pub returns-clause-answer : goal.returns-clause-answer
@@ -12,7 +14,11 @@ returns-clause-answer g c =
     let laws = g.met.K.Kind.laws in
     let was = labels_of c.new-work.result in
     let is = labels_of c.try_steps.new.work in
-    let searches = first_searches laws scene a.from a.to was is _ _ c.new-work.ensures.unknown refl c.start-cost.ensures c.try_steps.ensures.tries in
-    let yet = first_not_yet laws scene a.from a.to was is _ _ c.new-work.ensures.unknown refl c.start-cost.ensures c.try_steps.ensures.tries in
-    let found = c.run.ensures.answer a.from searches yet in
+    let aim : Goal g.row.K-Value.Denot = record { node = a.to; bound = None } in
+    let goal' = c.try_steps.new.goal in
+    let first = c.try_steps.ensures.tries in
+    let searches = first_searches laws scene a.from aim goal' was is _ _ c.new-work.ensures.unknown refl refl c.start-cost.ensures first in
+    let bounds = first_bounds laws scene a.from aim goal' was is _ _ c.new-work.ensures.unknown refl refl c.start-cost.ensures first in
+    let yet = first_not_yet laws scene a.from aim goal' was is _ _ c.new-work.ensures.unknown refl refl c.start-cost.ensures first in
+    let found = subst (λ t. IsOutcome g.K.Kind.ops scene a.from t c.run.new.work.labels.now c.run.result) c.try_steps.ensures.node (c.run.ensures.answer a.from searches bounds yet) in
     grind (arith, found)
