@@ -10,7 +10,7 @@ use super::Book;
 use fault::book::BookFault;
 use network::Network;
 use network::counts::Counts;
-use records::circuit::{CIRCUITS, Circuit};
+use records::circuit::{Circuit, is_circuit};
 use records::state::SpanState;
 
 impl Book<'_, '_, '_> {
@@ -42,7 +42,7 @@ impl Book<'_, '_, '_> {
     pub(crate) fn record(&self, circuit: u16) -> Result<Circuit, BookFault>
         ensures { result ≡ unless (first (of_circuit circuit ∷ [])) (circuit_in (tables self.now) circuit) }
     {
-        if usize::from(circuit) >= CIRCUITS {
+        if !is_circuit(circuit) {
             return Err(BookFault::NoCircuit);
         }
         Ok(self.lent.circuits[usize::from(circuit)])

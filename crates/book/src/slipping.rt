@@ -1,5 +1,4 @@
-ghost use Rattle.std.specs.Prelude.{◌≡◌, ◌+◌, length, Some, None, OnOk, MatchResult};
-ghost use Rattle.fault.specs.Judging.{unless};
+ghost use Rattle.std.specs.Prelude.{◌≡◌, Some, None, OnOk, MatchResult};
 ghost use Rattle.network.specs.Net.{net};
 ghost use Rattle.records.specs.Chains.{route_of};
 ghost use Rattle.slip.specs.Slips.{SettingsLead, Tells};

@@ -15,13 +15,13 @@ use Rattle.ticket.specs.declared.Trial.{Trial}
 use Rattle.ticket.specs.declared.Ticket.{Ticket}
 use Rattle.ticket.specs.declared.Ticket.TheVariants as ticket
 use Rattle.desk.specs.declared.reply.Cost.{Cost}
-use Rattle.desk.specs.Replies.{cost_text, Costs, lit_text, price_text, refusal_text, book_said}
+use Rattle.desk.specs.Replies.{cost_text, lit_text, price_text, refusal_text, book_said}
 use Rattle.desk.specs.declared.reply.Reply.{Reply}
 use Rattle.desk.specs.Serving.{ByKind, Orders, Trials, Only, SaysNo, Called}
 use Rattle.desk.proofs.Costed.{LitAt, Unlit}
 
 -- what comes of an order, told in other words
-kind_map : (k : CostKind) (g : Scene) (s t : ℕ) (due : Option BookFault) (P P' : List Step → List ℕ → Type 0) (R R' : BookFault → Type 0) → ((p : List Step) (text : List ℕ) → P p text → P' p text) → ((f : BookFault) → R f → R' f) → ByKind k g s t due P R → ByKind k g s t due P' R'
+kind_map : (k : CostKind) (g : Scene) (s t : ℕ) (due : Option BookFault) (P P' : List Step → Cost → Type 0) (R R' : BookFault → Type 0) → ((p : List Step) (v : Cost) → P p v → P' p v) → ((f : BookFault) → R f → R' f) → ByKind k g s t due P R → ByKind k g s t due P' R'
 kind_map kind.Sum g s t due P P' R R' found refused = ordered_map _ _ _ _ _ _ _ _ _ _ refl (λ p v. found p _) refused
 kind_map kind.Few g s t due P P' R R' found refused = ordered_map _ _ _ _ _ _ _ _ _ _ refl (λ p v. found p _) refused
 kind_map kind.Worst g s t due P P' R R' found refused = ordered_map _ _ _ _ _ _ _ _ _ _ refl (λ p v. found p _) refused
@@ -31,25 +31,21 @@ abbrev pub said_by : (List ℕ → List ℕ) → Result Cost BookFault → List 
 said_by tell (Ok v) = tell (cost_text v)
 said_by tell (Err f) = refusal_text (of_book f)
 
-cost_said : (tell : List ℕ → List ℕ) (b : Result Cost BookFault) (text : List ℕ) → Costs b text → said_by tell b ≡ tell text
-cost_said tell (Ok v) text e = ap tell e
-cost_said tell (Err f) text e = absurd e
-
 module _ (w : Net) (n : Counts) (x y : Tables) (t : Ticket) (b : Result Cost BookFault) (said : List ℕ) where
   pub lit_called : (q : Order) → t ≡ ticket.Light q → said ≡ said_by (lit_text q.circuit) b → Orders w n x q (LitAt n x q b y) (Unlit x b y) → Called w n x t said y
   lit_called q is e a =
       subst (λ i. Called w n x i said y) (sym is)
-      (kind_map q.kind _ _ _ _ _ _ _ _ (λ p text r. (e ∙ cost_said (lit_text q.circuit) b text r.0, r.1)) (λ f r. (e ∙ ap (said_by (lit_text q.circuit)) r.0, r.1)) a)
+      (kind_map q.kind _ _ _ _ _ _ _ _ (λ p v r. (e ∙ ap (said_by (lit_text q.circuit)) r.0, r.1)) (λ f r. (e ∙ ap (said_by (lit_text q.circuit)) r.0, r.1)) a)
 
   -- a price that is told, where nothing changes
   module _ (e : said ≡ said_by price_text b) (same : y ≡ x) where
-    price_told : (k : CostKind) (g : Scene) (s s' : ℕ) (due : Option BookFault) → ByKind k g s s' due (λ p text. Costs b text) (λ f. b ≡ Err f) → ByKind k g s s' due (λ p text. Only (price_text text) said x y) (SaysNo said x y)
-    price_told k g s s' due = kind_map k g s s' due _ _ _ _ (λ p text r. (e ∙ cost_said price_text b text r, same)) (λ f r. (e ∙ ap (said_by price_text) r, same))
+    price_told : (k : CostKind) (g : Scene) (s s' : ℕ) (due : Option BookFault) → ByKind k g s s' due (λ p v. b ≡ Ok v) (λ f. b ≡ Err f) → ByKind k g s s' due (λ p v. Only (price_text (cost_text v)) said x y) (SaysNo said x y)
+    price_told k g s s' due = kind_map k g s s' due _ _ _ _ (λ p v r. (e ∙ ap (said_by price_text) r, same)) (λ f r. (e ∙ ap (said_by price_text) r, same))
 
-    pub priced_called : (q : Order) → t ≡ ticket.Quote q → Orders w n x q (λ p text. Costs b text) (λ f. b ≡ Err f) → Called w n x t said y
+    pub priced_called : (q : Order) → t ≡ ticket.Quote q → Orders w n x q (λ p v. b ≡ Ok v) (λ f. b ≡ Err f) → Called w n x t said y
     priced_called q is a = subst (λ i. Called w n x i said y) (sym is) (price_told q.kind _ _ _ _ a)
 
-    pub tried_called : (q : Trial) → t ≡ ticket.Trial q → Trials w n x q (λ p text. Costs b text) (λ f. b ≡ Err f) → Called w n x t said y
+    pub tried_called : (q : Trial) → t ≡ ticket.Trial q → Trials w n x q (λ p v. b ≡ Ok v) (λ f. b ≡ Err f) → Called w n x t said y
     tried_called q is a = subst (λ i. Called w n x i said y) (sym is) (price_told q.kind _ _ _ _ a)
 
 -- what is said where the order is refused, and where a cost is found

@@ -18,7 +18,8 @@ use Rattle.ticket.specs.declared.CostKind.TheVariants as kind
 use Rattle.ticket.specs.declared.Ticket.{Ticket}
 use Rattle.ticket.specs.declared.Ticket.TheVariants as ticket
 use Rattle.ticket.specs.Tickets.{ticket_of}
-use Rattle.desk.specs.Replies.{lit_text, dark_text, shut_text, refusal_text, told}
+use Rattle.desk.specs.declared.reply.Cost.{Cost}
+use Rattle.desk.specs.Replies.{cost_text, lit_text, dark_text, shut_text, refusal_text, told}
 use Rattle.desk.specs.Serving.{ByKind, SaysNo, Called, Served, Answered, RefusalsChangeNothing}
 
 -- a text that begins with another letter is no refusal
@@ -32,7 +33,7 @@ module _ (r : Report) (x y : Tables) where
   ordered_same o g s t due P same (has_none d none a) = a.1
   ordered_same o g s t due P same (is_found d p v best a) = same p v a
 
-  kind_same : (k : CostKind) (g : Scene) (s t : ℕ) (due : Option BookFault) (P : List Step → List ℕ → Type 0) → ((p : List Step) (text : List ℕ) → P p text → y ≡ x) → ByKind k g s t due P (SaysNo (refusal_text r) x y) → y ≡ x
+  kind_same : (k : CostKind) (g : Scene) (s t : ℕ) (due : Option BookFault) (P : List Step → Cost → Type 0) → ((p : List Step) (v : Cost) → P p v → y ≡ x) → ByKind k g s t due P (SaysNo (refusal_text r) x y) → y ≡ x
   kind_same kind.Sum g s t due P same = ordered_same _ _ _ _ _ _ (λ p v. same p _)
   kind_same kind.Few g s t due P same = ordered_same _ _ _ _ _ _ (λ p v. same p _)
   kind_same kind.Worst g s t due P same = ordered_same _ _ _ _ _ _ (λ p v. same p _)
@@ -43,9 +44,9 @@ module _ (r : Report) (x y : Tables) where
   told_same n (Some f) h said other e c = c
 
   called_same : (w : Net) (n : Counts) (t : Ticket) → Called w n x t (refusal_text r) y → y ≡ x
-  called_same w n (ticket.Light q) a = kind_same q.kind _ _ _ _ _ (λ p text b. absurd (no_refusal r (lit_text q.circuit text) refl b.0)) a
-  called_same w n (ticket.Quote q) a = kind_same q.kind _ _ _ _ _ (λ p text b. b.1) a
-  called_same w n (ticket.Trial q) a = kind_same q.kind _ _ _ _ _ (λ p text b. b.1) a
+  called_same w n (ticket.Light q) a = kind_same q.kind _ _ _ _ _ (λ p v b. absurd (no_refusal r (lit_text q.circuit (cost_text v)) refl b.0)) a
+  called_same w n (ticket.Quote q) a = kind_same q.kind _ _ _ _ _ (λ p v b. b.1) a
+  called_same w n (ticket.Trial q) a = kind_same q.kind _ _ _ _ _ (λ p v b. b.1) a
   called_same w n (ticket.Dark c) a = told_same n (darken_refusal x c) (frees c) (dark_text c (length (path_in n x c))) refl a.0 a.1
   called_same w n (ticket.Shut e) a = told_same n (shut_refusal n e) (shuts e) (shut_text e) refl a.0 a.1
   called_same w n (ticket.Slip c) a = a.1

@@ -1,7 +1,7 @@
 -- What the desk says.
 use Rattle.std.specs.Prelude.{◌≡◌, ℕ, List, ◌∷◌, ◌++◌, length, None, Some, Ok, Err, Option, Result, codes, decimal}
 use Rattle.std.specs.List.{flat_map}
-use Rattle.std.specs.Result.{IsOkAnd, MatchResult}
+use Rattle.std.specs.Result.{MatchResult}
 use Rattle.fault.specs.Reports.{of_ticket, of_book}
 use Rattle.fault.specs.Texts.{report_text}
 use Rattle.fault.specs.declared.book.BookFault.{BookFault}
@@ -22,10 +22,6 @@ abbrev pub cost_text : Cost → List ℕ
 cost_text (cost.Sum v) = fee_text v
 cost_text (cost.Few v) = tally_text v
 cost_text (cost.Worst v) = decimal v
-
--- a cost was found that is printed so
-abbrev pub Costs : Result Cost BookFault → List ℕ → Type 0
-Costs r text = IsOkAnd r (λ v. cost_text v ≡ text)
 
 -- an answer's value is turned so, and its refusal kept
 abbrev pub Maps : {A B : Type 0} → (A → B) → Result A BookFault → Result B BookFault → Type 0

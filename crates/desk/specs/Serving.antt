@@ -1,5 +1,5 @@
 -- What a line asks for, what is said to it, and what it changes.
-use Rattle.std.specs.Prelude.{◌≡◌, ℕ, List, length, decimal, Ok, Err, Option, Result}
+use Rattle.std.specs.Prelude.{◌≡◌, ℕ, List, length, Ok, Err, Option, Result}
 use Rattle.fault.specs.Judging.{first}
 use Rattle.fault.specs.Reports.{of_ticket, of_book}
 use Rattle.fault.specs.declared.book.BookFault.{BookFault}
@@ -9,8 +9,8 @@ use Rattle.network.specs.declared.counts.Counts.{Counts}
 use Rattle.network.specs.declared.step.Step.{Step}
 use Rattle.network.specs.Net.{Net}
 use Rattle.cost.specs.Laws.{Ops}
-use Rattle.cost.specs.Sums.{sum_ops, fee_text}
-use Rattle.cost.specs.Fews.{few_ops, tally_text}
+use Rattle.cost.specs.Sums.{sum_ops}
+use Rattle.cost.specs.Fews.{few_ops}
 use Rattle.cost.specs.Worsts.{worst_ops}
 use Rattle.semilightpath.specs.Scenes.{Scene}
 use Rattle.slip.specs.Slips.{settings}
@@ -26,24 +26,26 @@ use Rattle.ticket.specs.declared.Trial.{Trial}
 use Rattle.ticket.specs.declared.Ticket.{Ticket}
 use Rattle.ticket.specs.declared.Ticket.TheVariants as ticket
 use Rattle.ticket.specs.Tickets.{ticket_of}
-use Rattle.desk.specs.Replies.{lit_text, price_text, dark_text, shut_text, slip_text, refusal_text, told}
+use Rattle.desk.specs.declared.reply.Cost.{Cost}
+use Rattle.desk.specs.declared.reply.Cost.TheVariants as cost
+use Rattle.desk.specs.Replies.{cost_text, lit_text, price_text, dark_text, shut_text, slip_text, refusal_text, told}
 
--- what comes of an order by a kind of cost: P tells what is to hold of the path, and of its cost as the kind prints it
-abbrev pub OrderedBy : {V : Type 0} → Ops V → (V → List ℕ) → Scene → ℕ → ℕ → Option BookFault → (List Step → List ℕ → Type 0) → (BookFault → Type 0) → Type 0
-OrderedBy o print g s t due P Refused = Ordered o g s t due (λ p v. P p (print v)) Refused
+-- what comes of an order by a kind of cost: P tells what is to hold of the path, and of its cost, told as one of that kind
+abbrev pub OrderedBy : {V : Type 0} → Ops V → (V → Cost) → Scene → ℕ → ℕ → Option BookFault → (List Step → Cost → Type 0) → (BookFault → Type 0) → Type 0
+OrderedBy o of_kind g s t due P Refused = Ordered o g s t due (λ p v. P p (of_kind v)) Refused
 
 -- the same by the kind of cost that is told
-abbrev pub ByKind : CostKind → Scene → ℕ → ℕ → Option BookFault → (List Step → List ℕ → Type 0) → (BookFault → Type 0) → Type 0
-ByKind kind.Sum = OrderedBy sum_ops fee_text
-ByKind kind.Few = OrderedBy few_ops tally_text
-ByKind kind.Worst = OrderedBy worst_ops decimal
+abbrev pub ByKind : CostKind → Scene → ℕ → ℕ → Option BookFault → (List Step → Cost → Type 0) → (BookFault → Type 0) → Type 0
+ByKind kind.Sum = OrderedBy sum_ops cost.Sum
+ByKind kind.Few = OrderedBy few_ops cost.Few
+ByKind kind.Worst = OrderedBy worst_ops cost.Worst
 
 -- of an order for a circuit, over what can be used
-abbrev pub Orders : Net → Counts → Tables → Order → (List Step → List ℕ → Type 0) → (BookFault → Type 0) → Type 0
+abbrev pub Orders : Net → Counts → Tables → Order → (List Step → Cost → Type 0) → (BookFault → Type 0) → Type 0
 Orders w n x q = ByKind q.kind (scene_in w x) q.from q.to (order_refusal n w.counts x q.circuit q.from q.to)
 
 -- of a trial, over what could be used if its span were shut
-abbrev pub Trials : Net → Counts → Tables → Trial → (List Step → List ℕ → Type 0) → (BookFault → Type 0) → Type 0
+abbrev pub Trials : Net → Counts → Tables → Trial → (List Step → Cost → Type 0) → (BookFault → Type 0) → Type 0
 Trials w n x q = ByKind q.kind (scene_without w x q.span) q.from q.to (first (of_trial n w.counts q.from q.to q.span))
 
 -- this is said, and nothing changes
@@ -57,9 +59,9 @@ SaysNo said x y f = Only (refusal_text (of_book f)) said x y
 -- what is said of a ticket's call, and what stands then, where tables x stood before
 abbrev pub Called : Net → Counts → Tables → Ticket → List ℕ → Tables → Type 0
 Called w n x (ticket.Light q) said y =
-    Orders w n x q (λ p cost. (said ≡ lit_text q.circuit cost) × (y ≡ changed_by n (lit_changes q.circuit q.from q.to p) x)) (SaysNo said x y)
-Called w n x (ticket.Quote q) said y = Orders w n x q (λ p cost. Only (price_text cost) said x y) (SaysNo said x y)
-Called w n x (ticket.Trial q) said y = Trials w n x q (λ p cost. Only (price_text cost) said x y) (SaysNo said x y)
+    Orders w n x q (λ p v. (said ≡ lit_text q.circuit (cost_text v)) × (y ≡ changed_by n (lit_changes q.circuit q.from q.to p) x)) (SaysNo said x y)
+Called w n x (ticket.Quote q) said y = Orders w n x q (λ p v. Only (price_text (cost_text v)) said x y) (SaysNo said x y)
+Called w n x (ticket.Trial q) said y = Trials w n x q (λ p v. Only (price_text (cost_text v)) said x y) (SaysNo said x y)
 Called w n x (ticket.Dark c) said y =
     (said ≡ told (darken_refusal x c) (dark_text c (length (path_in n x c)))) × (y ≡ changed_by n (unrefused (darken_refusal x c) (frees c)) x)
 Called w n x (ticket.Shut e) said y =

@@ -1,9 +1,9 @@
-ghost use Rattle.std.specs.Prelude.{◌≡◌, Err};
+ghost use Rattle.std.specs.Prelude.{◌≡◌, Ok, Err};
 ghost use Rattle.network.specs.Net.{net};
 ghost use Rattle.book.specs.Changes.{changed_by};
 ghost use Rattle.book.specs.State.{tables, Kept};
 ghost use Rattle.orders.specs.Orders.{lit_changes};
-ghost use Rattle.desk.specs.Replies.{Costs, Maps};
+ghost use Rattle.desk.specs.Replies.{Maps};
 ghost use Rattle.desk.specs.declared.reply.Cost.TheVariants as cost;
 ghost use Rattle.desk.specs.Serving.{Orders, Trials};
 
@@ -52,7 +52,7 @@ pub(crate) fn light_by_kind(
 ) -> Result<Cost, BookFault>
     ensures kept { Kept book.old book.new }
     ensures answer { Orders (net network.now) book.old.extent.counts (tables book.old) order
-        (λ p text. Costs result text × (tables book.new ≡ changed_by book.old.extent.counts (lit_changes order.circuit order.from order.to p) (tables book.old)))
+        (λ p v. (result ≡ Ok v) × (tables book.new ≡ changed_by book.old.extent.counts (lit_changes order.circuit order.from order.to p) (tables book.old)))
         (λ f. (result ≡ Err f) × (tables book.new ≡ tables book.old)) }
 {
     let Order {
@@ -84,7 +84,7 @@ pub(crate) fn price_by_kind(
     order: Order,
 ) -> Result<Cost, BookFault>
     ensures kept { Kept book.old book.new }
-    ensures answer { Orders (net network.now) book.old.extent.counts (tables book.old) order (λ p text. Costs result text) (λ f. result ≡ Err f) }
+    ensures answer { Orders (net network.now) book.old.extent.counts (tables book.old) order (λ p v. result ≡ Ok v) (λ f. result ≡ Err f) }
     ensures tables { tables book.new ≡ tables book.old }
 {
     let Order {
@@ -116,7 +116,7 @@ pub(crate) fn try_by_kind(
     trial: Trial,
 ) -> Result<Cost, BookFault>
     ensures kept { Kept book.old book.new }
-    ensures answer { Trials (net network.now) book.old.extent.counts (tables book.old) trial (λ p text. Costs result text) (λ f. result ≡ Err f) }
+    ensures answer { Trials (net network.now) book.old.extent.counts (tables book.old) trial (λ p v. result ≡ Ok v) (λ f. result ≡ Err f) }
     ensures tables { tables book.new ≡ tables book.old }
 {
     let Trial {

@@ -1,10 +1,17 @@
-ghost use Rattle.std.specs.Prelude.{◌≡◌};
-ghost use Rattle.records.specs.Chains.{standing};
+ghost use Rattle.std.specs.Prelude.{◌≡◌, nat_lt};
+ghost use Rattle.records.specs.Chains.{circuit_count, standing};
 
 use network::step::Step;
 
 // How many circuits a book has.
 pub const CIRCUITS: usize = 128;
+
+// Whether a book has a circuit of this number.
+pub fn is_circuit(number: u16) -> bool
+    ensures { result ≡ nat_lt number circuit_count }
+{
+    usize::from(number) < CIRCUITS
+}
 
 // Where a circuit leads, the first step of its path, and how many steps the path has.
 #[derive(Clone, Copy, PartialEq, Eq, Debug)]

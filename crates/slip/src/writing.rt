@@ -2,9 +2,9 @@ ghost use Rattle.std.specs.Prelude.{◌≡◌, ◌+◌, ◌≤◌, length, Some}
 ghost use Rattle.std.specs.Option.{option_and_then, option_map};
 ghost use Rattle.network.specs.Net.{net};
 ghost use Rattle.records.specs.Chains.{next, channel_at, along};
-ghost use Rattle.slip.specs.Slips.{label_of, port, node_between, between, slip, SettingsLead, Tells};
+ghost use Rattle.slip.specs.Slips.{blank, label_of, port, node_between, between, slip, SettingsLead, Tells};
 
-use super::setting::{NO_NODE, Port, Setting};
+use super::setting::{BLANK, NO_NODE, Port, Setting};
 use label::Label;
 use network::Network;
 use network::extent::Extent;
@@ -72,12 +72,14 @@ fn following(extent: Extent, channels: &[Channel], step: Option<Step>) -> Option
 }
 
 // Writes the settings along a route's path, as the records of the channels chain it, and fills the
-// rest of the buffer with blanks. A short buffer gets the settings for which it has room.
+// rest of the buffer with blanks, each of them `BLANK`. A short buffer gets the settings for which it
+// has room.
 #[tactic(auto, using(records::proofs::Chained::chain_first, crate::proofs::Written::written_all))]
 pub fn write_slip(network: &Network, channels: &[Channel], route: Route, buffer: &mut [Setting])
     ensures is { buffer.new ≡ slip (net network.now) (along (net network.now).counts channels.now (Some route)) (length buffer.old) }
     ensures tells { length (along (net network.now).counts channels.now (Some route)) + 1 ≤ length buffer.old → Tells (net network.now) (along (net network.now).counts channels.now (Some route)) buffer.new }
     ensures lead { SettingsLead (net network.now) (along (net network.now).counts channels.now (Some route)) }
+    ensures blank { BLANK ≡ blank }
 {
     let extent = network.extent();
     let steps = usize::from(route.steps);

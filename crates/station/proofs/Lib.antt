@@ -1,1 +1,3 @@
 mod Room
+mod Reading
+mod Conversed
