@@ -1,0 +1,5 @@
+pub mod Requests
+pub mod Replies
+pub mod Switches
+pub mod Serving
+pub mod Answers
