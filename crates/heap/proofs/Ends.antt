@@ -3,7 +3,7 @@ use Rattle.std.proofs.Common.{◌≡◌, ℕ, ◌+◌, ◌-◌, ◌<◌, ◌≤�
 use Rattle.std.proofs.lemmas.Bool.{cases_eq}
 use Rattle.std.proofs.lemmas.List.{get_or-set_same, get_or-set_other, set-get_or}
 use Rattle.heap.specs.Orders.{IsOrder}
-use Rattle.heap.specs.Heaps.{Holds, Seated, IsHeap, Skips, Rises, HasHole, Beside, KeepsRest, Moves, WasHeap}
+use Rattle.heap.specs.Heaps.{Holds, Seated, IsHeap, Skips, Rises, Sinks, Beside, KeepsRest, Moves, WasHeap}
 use Rattle.heap.proofs.Tables.{within_holds, apart, seat}
 use Rattle.heap.proofs.Sifts.{by, top_least}
 
@@ -67,10 +67,10 @@ module _ (size : ℕ) (xs seats : List ℕ) (n m last : ℕ) (split : m + 1 ≡ 
       ))
       (cases_eq k 0)
 
-  pub pop_hole : (most : ℕ → ℕ → Bool) → IsHeap most xs n → HasHole most (slice_set xs 0 last) 0 m
-  unfolding IsHeap HasHole Skips
-  pop_hole most hp = (
-    λ p k c f u v. by most _ _ _ _ (get_or-set_other xs 0 p last 0 u) (get_or-set_other xs 0 k last 0 v) (hp p k c (omega arith)),
+  pub pop_sinks : (most : ℕ → ℕ → Bool) → IsHeap most xs n → Sinks most (slice_set xs 0 last) 0 m
+  unfolding IsHeap Sinks Skips
+  pop_sinks most hp = (
+    λ p k c f u. by most _ _ _ _ (get_or-set_other xs 0 p last 0 u) (get_or-set_other xs 0 k last 0 (omega arith)) (hp p k c (omega arith)),
     λ p k c d f. absurd (omega arith),
   )
 

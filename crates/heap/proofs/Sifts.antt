@@ -1,11 +1,14 @@
 -- What each step of a sift keeps, over an order with its two laws.
-use Rattle.std.proofs.Common.{◌≡◌, ℕ, zero, suc, ◌+◌, ◌-◌, ◌*◌, ◌/◌, ◌<◌, ◌≤◌, Bool, true, false, List, length, not, slice_index, slice_set, refl, sym, ap, subst, ◌∙◌, ⊎_elim, arith}
+use Rattle.std.proofs.Common.{◌≡◌, ℕ, zero, suc, ◌+◌, ◌-◌, ◌*◌, ◌/◌, ◌<◌, ◌≤◌, min, Bool, true, false, List, length, slice_index, slice_set, refl, sym, ap, ◌∙◌, ⊎_elim, arith}
 use Rattle.std.proofs.lemmas.Bool.{cases_eq}
 use Rattle.std.proofs.lemmas.List.{get_or-set_same, get_or-set_other}
-use mir.Val.{bool_byte}
-use Rattle.heap.specs.Orders.{IsOrder}
-use Rattle.heap.specs.Heaps.{IsChild, IsHeap, Skips, Rises, HasHole, IsLeastChild}
+use Rattle.heap.specs.Orders.{IsOrder, by_key}
+use Rattle.heap.specs.Heaps.{IsChild, IsHeap, Skips, Rises, Sinks, IsLeastChild}
 use Rattle.heap.proofs.Tables.{Swapped, swapped}
+
+-- by keys in order, numbers are
+pub by_key_order : {K : Type 0} (key : ℕ → K) (most : K → K → Bool) → IsOrder most → IsOrder (by_key key most)
+by_key_order key most laws = record { total = λ a b. laws.total _ _; transitive = λ a b c. laws.transitive _ _ _ }
 
 module _ (most : ℕ → ℕ → Bool) where
   pub by : (a b x y : ℕ) → a ≡ x → b ≡ y → most x y ≡ true → most a b ≡ true
@@ -28,10 +31,15 @@ module _ (most : ℕ → ℕ → Bool) where
       (λ e. h.0 q k d l e)
       (cases_eq k j)
 
-  -- an element with no children may be anything
-  pub hole_ends : (xs : List ℕ) (j n : ℕ) → n ≤ j * 2 + 1 → HasHole most xs j n → Rises most xs j n
-  unfolding Rises HasHole
-  hole_ends xs j n l h = (λ p k c i u. h.0 p k c i (omega arith) u, h.1)
+  -- an element with no children has none that is less
+  pub sink_ends : (xs : List ℕ) (j n : ℕ) → n ≤ j * 4 + 1 → Sinks most xs j n → IsHeap most xs n
+  unfolding Sinks IsHeap
+  sink_ends xs j n l h = λ p k c i. h.0 p k c i (omega arith)
+
+  -- none of four is left out
+  pub all_children : (xs : List ℕ) (j c k n : ℕ) → k ≡ min n (j * 4 + 5) → IsLeastChild most xs j c k → IsLeastChild most xs j c n
+  unfolding IsLeastChild
+  all_children xs j c k n e h = λ q d f. h q d (omega arith)
 
   module _ (laws : IsOrder most) where
     -- the element at j goes up, to p
@@ -56,20 +64,31 @@ module _ (most : ℕ → ℕ → Bool) where
           (cases_eq k j),
     )
 
-    -- the hole at j goes down, to the least child c
-    pub hole_step : (xs ys : List ℕ) (j c n : ℕ) → IsChild j c → c < n → IsLeastChild most xs j c n → Swapped xs ys c j → HasHole most xs j n → HasHole most ys c n
-    unfolding HasHole Skips IsLeastChild
-    hole_step xs ys j c n par in' least s h = (
-      λ q k d f v u. ⊎_elim
-          (λ e. by _ _ _ _ (ap (slice_index ys) e ∙ s.second) (s.others k u (omega arith)) (least k (omega arith, omega arith) f))
+    -- the element is at most the least child
+    pub sink_rests : (xs : List ℕ) (j c n : ℕ) → IsLeastChild most xs j c n → most (slice_index xs j) (slice_index xs c) ≡ true → Sinks most xs j n → IsHeap most xs n
+    unfolding Sinks IsHeap IsLeastChild
+    sink_rests xs j c n least t h = λ q k d f. ⊎_elim
+        (λ e. by _ _ _ _ (ap (slice_index xs) e) refl (laws.transitive _ _ _ t (least k (omega arith, omega arith) f)))
+        (λ v. h.0 q k d f v)
+        (cases_eq q j)
+
+    -- the element at j goes down, to the least child c
+    pub sink_step : (xs ys : List ℕ) (j c n : ℕ) → IsChild j c → c < n → IsLeastChild most xs j c n → most (slice_index xs c) (slice_index xs j) ≡ true → Swapped xs ys c j → Sinks most xs j n → Sinks most ys c n
+    unfolding Sinks Skips IsLeastChild
+    sink_step xs ys j c n par in' least t s h = (
+      λ q k d f v. ⊎_elim
+          (λ e. ⊎_elim
+          (λ u. by _ _ _ _ (ap (slice_index ys) e ∙ s.second) (ap (slice_index ys) u ∙ s.first) t)
+          (λ u. by _ _ _ _ (ap (slice_index ys) e ∙ s.second) (s.others k u (omega arith)) (least k (omega arith, omega arith) f))
+          (cases_eq k c))
           (λ w. ⊎_elim
           (λ e. by _ _ _ _ (s.others q v w) (ap (slice_index ys) e ∙ s.second) (h.1 q c (omega arith, omega arith) par in'))
-          (λ e. by _ _ _ _ (s.others q v w) (s.others k u e) (h.0 q k d f w e))
+          (λ e. by _ _ _ _ (s.others q v w) (s.others k (omega arith) e) (h.0 q k d f w))
           (cases_eq k j))
           (cases_eq q j),
       λ q k d b f.
           let e : q ≡ j = omega arith in
-          by _ _ _ _ (ap (slice_index ys) e ∙ s.second) (s.others k (omega arith) (omega arith)) (h.0 c k b f (omega arith) (omega arith)),
+          by _ _ _ _ (ap (slice_index ys) e ∙ s.second) (s.others k (omega arith) (omega arith)) (h.0 c k b f (omega arith)),
     )
 
     pub itself : (x : ℕ) → most x x ≡ true
@@ -79,23 +98,24 @@ module _ (most : ℕ → ℕ → Bool) where
         go true e = e
         go false e = laws.total x x e
 
-    pub only_child : (xs : List ℕ) (j c n : ℕ) → c ≡ j * 2 + 1 → c + 1 ≡ n → IsLeastChild most xs j c n
+    -- the least child of those before the place k, and what the one at k makes of it
+    pub first_child : (xs : List ℕ) (j c k : ℕ) → c ≡ j * 4 + 1 → k ≡ c + 1 → IsLeastChild most xs j c k
     unfolding IsLeastChild
-    only_child xs j c n e l = λ k d f. let same : k ≡ c = omega arith in by _ _ _ _ refl (ap (slice_index xs) same) (itself _)
+    first_child xs j c k e l = λ q d f. let same : q ≡ c = omega arith in by _ _ _ _ refl (ap (slice_index xs) same) (itself _)
 
-    pub left_child : (xs : List ℕ) (j c n : ℕ) → c ≡ j * 2 + 1 → most (slice_index xs c) (slice_index xs (c + 1)) ≡ true → IsLeastChild most xs j c n
+    pub greater_child : (xs : List ℕ) (j c k : ℕ) → most (slice_index xs c) (slice_index xs k) ≡ true → IsLeastChild most xs j c k → IsLeastChild most xs j c (k + 1)
     unfolding IsLeastChild
-    left_child xs j c n e t = λ k d f. ⊎_elim
+    greater_child xs j c k t h = λ q d f. ⊎_elim
+        (λ same. by _ _ _ _ refl (ap (slice_index xs) same) t)
+        (λ u. h q d (omega arith))
+        (cases_eq q k)
+
+    pub lesser_child : (xs : List ℕ) (j c k : ℕ) → most (slice_index xs c) (slice_index xs k) ≡ false → IsLeastChild most xs j c k → IsLeastChild most xs j k (k + 1)
+    unfolding IsLeastChild
+    lesser_child xs j c k t h = λ q d f. ⊎_elim
         (λ same. by _ _ _ _ refl (ap (slice_index xs) same) (itself _))
-        (λ u. let same : k ≡ c + 1 = omega arith in by _ _ _ _ refl (ap (slice_index xs) same) t)
-        (cases_eq k c)
-
-    pub right_child : (xs : List ℕ) (j c n : ℕ) → c ≡ j * 2 + 1 → most (slice_index xs c) (slice_index xs (c + 1)) ≡ false → IsLeastChild most xs j (c + 1) n
-    unfolding IsLeastChild
-    right_child xs j c n e t = λ k d f. ⊎_elim
-        (λ same. by _ _ _ _ refl (ap (slice_index xs) same) (laws.total _ _ t))
-        (λ u. let same : k ≡ c + 1 = omega arith in by _ _ _ _ refl (ap (slice_index xs) same) (itself _))
-        (cases_eq k c)
+        (λ u. laws.transitive _ _ _ (laws.total _ _ t) (h q d (omega arith)))
+        (cases_eq q k)
 
     -- the top is at most every other
     pub top_least : (xs : List ℕ) (n : ℕ) → IsHeap most xs n → (fuel k : ℕ) → k ≤ fuel → k < n → most (slice_index xs 0) (slice_index xs k) ≡ true
@@ -103,18 +123,17 @@ module _ (most : ℕ → ℕ → Bool) where
     top_least xs n h zero k a b = let same : k ≡ 0 = omega arith in by _ _ _ _ refl (ap (slice_index xs) same) (itself _)
     top_least xs n h (suc fuel) k a b = ⊎_elim
         (λ same. by _ _ _ _ refl (ap (slice_index xs) same) (itself _))
-        (λ u. laws.transitive _ _ _ (top_least xs n h fuel ((k - 1) / 2) (omega arith) (omega arith)) (h ((k - 1) / 2) k (omega arith, omega arith) b))
+        (λ u. laws.transitive _ _ _ (top_least xs n h fuel ((k - 1) / 4) (omega arith) (omega arith)) (h ((k - 1) / 4) k (omega arith, omega arith) b))
         (cases_eq k 0)
-
-    -- the lesser of two children, told by a test
-    pub told_child : (xs : List ℕ) (j c n i : ℕ) (t : Bool) → c ≡ j * 2 + 1 → t ≡ most (slice_index xs c) (slice_index xs (c + 1)) → i ≡ bool_byte (not t) → IsLeastChild most xs j (c + i) n
-    told_child xs j c n i true e t d = subst (λ (m : ℕ). IsLeastChild most xs j m n) (omega arith) (left_child xs j c n e (sym t))
-    told_child xs j c n i false e t d = subst (λ (m : ℕ). IsLeastChild most xs j m n) (omega arith) (right_child xs j c n e (sym t))
 
 -- the same steps in the tables that the code has, where x is in hand and its place j a hole
 module _ (most : ℕ → ℕ → Bool) (xs : List ℕ) (j n x : ℕ) (in' : j < n) (fits : n ≤ length xs) where
   pub hole_rests : (p : ℕ) → IsChild p j → most (slice_index xs p) x ≡ true → Rises most (slice_set xs j x) j n → IsHeap most (slice_set xs j x) n
   hole_rests p c t h = rise_rests most (slice_set xs j x) p j n c (by most _ _ _ _ (get_or-set_other xs j p x 0 (omega arith)) (get_or-set_same xs j x 0 (omega arith)) t) h
+
+  least_same : (p : ℕ) → IsChild j p → IsLeastChild most xs j p n → IsLeastChild most (slice_set xs j x) j p n
+  unfolding IsLeastChild
+  least_same p c least = λ k d f. by most _ _ _ _ (get_or-set_other xs j p x 0 (omega arith)) (get_or-set_other xs j k x 0 (omega arith)) (least k d f)
 
   module _ (laws : IsOrder most) where
     pub hole_rises : (p y : ℕ) → IsChild p j → y ≡ slice_index xs p → most y x ≡ false → Rises most (slice_set xs j x) j n → Rises most (slice_set (slice_set xs j y) p x) p n
@@ -123,9 +142,15 @@ module _ (most : ℕ → ℕ → Bool) (xs : List ℕ) (j n x : ℕ) (in' : j < 
         (by most _ _ _ _ (get_or-set_same xs j x 0 (omega arith)) (get_or-set_other xs j p x 0 (omega arith) ∙ sym is) (laws.total _ _ t))
         (swapped xs xs n j p x y in' (omega arith) (omega arith) fits is) h
 
-    pub hole_sinks : (p y : ℕ) → IsChild j p → p < n → y ≡ slice_index xs p → IsLeastChild most xs j p n → HasHole most (slice_set xs j x) j n → HasHole most (slice_set (slice_set xs j y) p x) p n
-    unfolding IsLeastChild
-    hole_sinks p y c at is least h =
-        hole_step most laws (slice_set xs j x) _ j p n c at
-        (λ k d f. by most _ _ _ _ (get_or-set_other xs j p x 0 (omega arith)) (get_or-set_other xs j k x 0 (omega arith)) (least k d f))
+    pub hole_stays : (p y : ℕ) → IsChild j p → y ≡ slice_index xs p → IsLeastChild most xs j p n → most x y ≡ true → Sinks most (slice_set xs j x) j n → IsHeap most (slice_set xs j x) n
+    hole_stays p y c is least t h =
+        sink_rests most laws (slice_set xs j x) j p n
+        (least_same p c least)
+        (by most _ _ _ _ (get_or-set_same xs j x 0 (omega arith)) (get_or-set_other xs j p x 0 (omega arith) ∙ sym is) t) h
+
+    pub hole_sinks : (p y : ℕ) → IsChild j p → p < n → y ≡ slice_index xs p → IsLeastChild most xs j p n → most x y ≡ false → Sinks most (slice_set xs j x) j n → Sinks most (slice_set (slice_set xs j y) p x) p n
+    hole_sinks p y c at is least t h =
+        sink_step most laws (slice_set xs j x) _ j p n c at
+        (least_same p c least)
+        (by most _ _ _ _ (get_or-set_other xs j p x 0 (omega arith) ∙ sym is) (get_or-set_same xs j x 0 (omega arith)) (laws.total _ _ t))
         (swapped xs xs n j p x y in' at (omega arith) fits is) h

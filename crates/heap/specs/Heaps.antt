@@ -19,9 +19,9 @@ Same xs n ys m = Within xs n ys m × Within ys m xs n
 unfoldable pub Seated : ℕ → List ℕ → List ℕ → ℕ → Type 0
 Seated size xs seats n = (k : ℕ) → k < n → (slice_index xs k < size) × (slice_index seats (slice_index xs k) ≡ k)
 
--- k is one of the two children of p
+-- k is one of the four children of p
 abbrev pub IsChild : ℕ → ℕ → Type 0
-IsChild p k = (p * 2 + 1 ≤ k) × (k ≤ p * 2 + 2)
+IsChild p k = (p * 4 + 1 ≤ k) × (k ≤ p * 4 + 4)
 
 -- of the first n each but the top has a parent that is at most it
 unfoldable pub IsHeap : (ℕ → ℕ → Bool) → List ℕ → ℕ → Type 0
@@ -35,11 +35,11 @@ Skips most xs j n = (p k : ℕ) → IsChild p j → IsChild j k → k < n → mo
 unfoldable pub Rises : (ℕ → ℕ → Bool) → List ℕ → ℕ → ℕ → Type 0
 Rises most xs j n = ((p k : ℕ) → IsChild p k → k < n → k ≢ j → most (slice_index xs p) (slice_index xs k) ≡ true) × Skips most xs j n
 
--- a heap, but for the element at j, which may be anything
-unfoldable pub HasHole : (ℕ → ℕ → Bool) → List ℕ → ℕ → ℕ → Type 0
-HasHole most xs j n = ((p k : ℕ) → IsChild p k → k < n → p ≢ j → k ≢ j → most (slice_index xs p) (slice_index xs k) ≡ true) × Skips most xs j n
+-- a heap, but that a child of j may be less than the element at j
+unfoldable pub Sinks : (ℕ → ℕ → Bool) → List ℕ → ℕ → ℕ → Type 0
+Sinks most xs j n = ((p k : ℕ) → IsChild p k → k < n → p ≢ j → most (slice_index xs p) (slice_index xs k) ≡ true) × Skips most xs j n
 
--- no child of j is less than the element at c
+-- no child of j among the first n is less than the element at c
 unfoldable pub IsLeastChild : (ℕ → ℕ → Bool) → List ℕ → ℕ → ℕ → ℕ → Type 0
 IsLeastChild most xs j c n = (k : ℕ) → IsChild j k → k < n → most (slice_index xs c) (slice_index xs k) ≡ true
 

@@ -1,4 +1,4 @@
-//! A binary heap over lent memory, by any order that a keeper answers.
+//! A heap of four children, over lent memory, by any order that a keeper answers.
 #![tactic(auto)]
 
 mod calls;

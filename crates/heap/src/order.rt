@@ -1,18 +1,25 @@
 ghost use Rattle.std.specs.Prelude.{◌≡◌, ℕ, ◌<◌, Bool};
 ghost use Rattle.heap.specs.Orders.{IsOrder};
 
-// An order on the numbers below `size`, which a keeper answers. What it goes by, the keeper has: the
-// elements of a heap are numbers alone.
+// An order on the numbers below `size`, which a keeper answers: it goes by their keys, and what those
+// are, the keeper has. The elements of a heap are numbers alone.
 pub trait Order {
+    type Key: Copy;
+
     ghost size: { Self → ℕ };
 
-    ghost most: { Self → ℕ → ℕ → Bool };
+    ghost key: { Self → ℕ → Self.Key };
 
-    // Whether the first is at most the second.
-    fn at_most(&self, a: u16, b: u16) -> bool
-        requires first { a < size self.now }
-        requires second { b < size self.now }
-        ensures { result ≡ most self.now a b };
+    ghost most: { Self.Key → Self.Key → Bool };
 
-    ghost laws: { (s : Self) → IsOrder (most s) };
+    // The key of a number.
+    fn key(&self, x: u16) -> Self::Key
+        requires { x < size self.now }
+        ensures { result ≡ key self.now x };
+
+    // Whether the first key is at most the second.
+    fn at_most(&self, a: Self::Key, b: Self::Key) -> bool
+        ensures { result ≡ most a b };
+
+    ghost laws: { IsOrder most };
 }

@@ -1,5 +1,6 @@
-ghost use Rattle.std.specs.Prelude.{◌≡◌, ◌+◌, ◌*◌, ◌<◌, ◌≤◌, length, slice_index, slice_set};
-ghost use Rattle.heap.specs.Heaps.{Seated, IsHeap, Rises, HasHole, IsChild, IsLeastChild, Moves};
+ghost use Rattle.std.specs.Prelude.{◌≡◌, ℕ, ◌+◌, ◌*◌, ◌<◌, ◌≤◌, length, slice_index, slice_set};
+ghost use Rattle.heap.specs.Orders.{by_key};
+ghost use Rattle.heap.specs.Heaps.{Seated, IsHeap, Rises, Sinks, IsChild, IsLeastChild, Moves};
 
 use super::order::Order;
 
@@ -34,15 +35,16 @@ pub(crate) fn rise<O: Order>(
     requires element { x < O.size order.now }
     requires sized { O.size order.now ≤ length seats.old }
     requires seated { Seated (O.size order.now) (slice_set slots.old hole x) (slice_set seats.old x hole) len }
-    requires rises { Rises (O.most order.now) (slice_set slots.old hole x) hole len }
+    requires rises { Rises (by_key (O.key order.now) O.most) (slice_set slots.old hole x) hole len }
     ensures moves { Moves (O.size order.now) (slice_set slots.old hole x) (slice_set seats.old x hole) len slots.new seats.new }
-    ensures heap { IsHeap (O.most order.now) slots.new len }
+    ensures heap { IsHeap (by_key (O.key order.now) O.most) slots.new len }
 {
+    let key = order.key(x);
     let mut at = hole;
     while at > 0 {
-        let parent = (at - 1) / 2;
+        let parent = (at - 1) / 4;
         let held = slots[parent];
-        if order.at_most(held, x) {
+        if order.at_most(order.key(held), key) {
             put(slots, seats, at, x);
             return;
         }
@@ -52,28 +54,34 @@ pub(crate) fn rise<O: Order>(
     put(slots, seats, at, x);
 }
 
-// The child that is at most the other.
-#[tactic(auto, using(crate::proofs::Sifts::only_child, crate::proofs::Sifts::told_child))]
-fn least_child<O: Order>(order: &O, slots: &[u16], len: usize, at: usize) -> usize
-    requires place { at * 2 + 1 < len }
+// A child that is at most every other, and its key.
+#[tactic(auto, using(crate::proofs::Sifts::first_child, crate::proofs::Sifts::greater_child, crate::proofs::Sifts::lesser_child, crate::proofs::Sifts::all_children))]
+fn least_child<O: Order>(order: &O, slots: &[u16], len: usize, at: usize) -> (usize, O::Key)
+    requires place { at * 4 + 1 < len }
     requires fits { len ≤ length slots.now }
     requires few { length slots.now ≤ 65536 }
-    requires first { slice_index slots.now (at * 2 + 1) < O.size order.now }
-    requires second { at * 2 + 2 < len → slice_index slots.now (at * 2 + 2) < O.size order.now }
-    ensures child { IsChild at result }
-    ensures within { result < len }
-    ensures least { IsLeastChild (O.most order.now) slots.now at result len }
+    requires elements { (k : ℕ) → IsChild at k → k < len → slice_index slots.now k < O.size order.now }
+    ensures child { IsChild at result.0 }
+    ensures within { result.0 < len }
+    ensures key { result.1 ≡ O.key order.now (slice_index slots.now result.0) }
+    ensures least { IsLeastChild (by_key (O.key order.now) O.most) slots.now at result.0 len }
 {
-    let child = at * 2 + 1;
-    if child + 1 == len {
-        return child;
+    let first = at * 4 + 1;
+    let mut least = first;
+    let mut least_key = order.key(slots[first]);
+    for child in first + 1..len.min(first + 4) {
+        let key = order.key(slots[child]);
+        if !order.at_most(least_key, key) {
+            least = child;
+            least_key = key;
+        }
     }
-    child + usize::from(!order.at_most(slots[child], slots[child + 1]))
+    (least, least_key)
 }
 
-// The hole at the top goes down to a place that has no children, always to the lesser child; from there
-// the element in hand goes up.
-#[tactic(auto, using(crate::proofs::Tables::moves_refl, crate::proofs::Tables::moves_trans, crate::proofs::Tables::moved, crate::proofs::Tables::elsewhere_below, crate::proofs::Sifts::hole_ends, crate::proofs::Sifts::hole_sinks))]
+// The hole at the top goes down, always to the least child, until the element in hand is at most that
+// child, or there is none.
+#[tactic(auto, using(crate::proofs::Tables::moves_refl, crate::proofs::Tables::moves_trans, crate::proofs::Tables::moved, crate::proofs::Tables::elsewhere_below, crate::proofs::Sifts::sink_ends, crate::proofs::Sifts::hole_stays, crate::proofs::Sifts::hole_sinks))]
 pub(crate) fn sink<O: Order>(order: &O, slots: &mut [u16], seats: &mut [u16], len: usize, x: u16)
     requires place { 0 < len }
     requires fits { len ≤ length slots.old }
@@ -81,16 +89,21 @@ pub(crate) fn sink<O: Order>(order: &O, slots: &mut [u16], seats: &mut [u16], le
     requires element { x < O.size order.now }
     requires sized { O.size order.now ≤ length seats.old }
     requires seated { Seated (O.size order.now) (slice_set slots.old 0 x) (slice_set seats.old x 0) len }
-    requires hole { HasHole (O.most order.now) (slice_set slots.old 0 x) 0 len }
+    requires sinks { Sinks (by_key (O.key order.now) O.most) (slice_set slots.old 0 x) 0 len }
     ensures moves { Moves (O.size order.now) (slice_set slots.old 0 x) (slice_set seats.old x 0) len slots.new seats.new }
-    ensures heap { IsHeap (O.most order.now) slots.new len }
+    ensures heap { IsHeap (by_key (O.key order.now) O.most) slots.new len }
 {
+    let key = order.key(x);
     let mut at = 0;
-    while at < len / 2 {
-        let child = least_child(order, slots, len, at);
+    while at * 4 + 1 < len {
+        let (child, least) = least_child(order, slots, len, at);
+        if order.at_most(key, least) {
+            put(slots, seats, at, x);
+            return;
+        }
         let held = slots[child];
         put(slots, seats, at, held);
         at = child;
     }
-    rise(order, slots, seats, len, at, x);
+    put(slots, seats, at, x);
 }
