@@ -122,3 +122,32 @@ fn the_sample_network_is_told(rt: HostRuntime) -> Result<(), Fail> {
     );
     Ok(())
 }
+
+#[test]
+fn the_rows_of_the_sample_network_rise(rt: HostRuntime) -> Result<(), Fail> {
+    let mut tariffs = [7u16; 8];
+    let mut converters = [7u16; 16];
+    let plan = check_plan(&SAMPLE, &tariffs, &converters)?;
+    plan.load(&mut tariffs, &mut converters);
+    let network = plan.network(&tariffs, &converters);
+    assert_eq!(rt; network.ways(0, 0), [0, 2].as_slice());
+    assert_eq!(rt; network.ways(0, 1), [2, 0].as_slice());
+    assert_eq!(rt; network.ways(1, 1), [1].as_slice());
+    assert_eq!(rt; network.exits(1, 0), [1, 0].as_slice());
+    assert_eq!(rt; network.exits(3, 1).len(), 2);
+    assert_eq!(rt; network.entering(3), [1, 3].as_slice());
+    assert!(rt;
+        network.ways(3, 0).is_empty() && network.entering(0).is_empty(),
+        "no span leaves node 3 or enters node 0"
+    );
+    assert!(rt;
+        network.ways(64, 0).is_empty() && network.ways(0, 2).is_empty(),
+        "none leaves beyond"
+    );
+    assert!(rt;
+        network.exits(4, 0).is_empty() && network.exits(1, 2).is_empty(),
+        "none converts beyond"
+    );
+    assert!(rt; network.entering(4).is_empty(), "none enters beyond");
+    Ok(())
+}

@@ -2,8 +2,8 @@
 use Rattle.std.proofs.Common.{◌≡◌, ℕ, ◌+◌, ◌<◌, ◌≤◌, List, [], ◌∷◌, ◌++◌, map, length, get_or, take, drop, set, replicate, sym, ap, ◌∙◌, arith}
 use Rattle.std.specs.List.{range_with_len}
 use Rattle.network.specs.Tables.{filled, tabled}
-use Rattle.std.proofs.lemmas.List.FromFn.{length-map-range_with_len, get_or-map-range_with_len, map-range_with_len_more}
-use Rattle.std.proofs.lemmas.List.{set_at, take_at, drop_at, drop_more, replicate_more, append_assoc, length-replicate, length-append, length-drop, get_or_append_left}
+use Rattle.std.proofs.lemmas.List.FromFn.{length-range_with_len, length-map-range_with_len, get_or-map-range_with_len, map-range_with_len_more}
+use Rattle.std.proofs.lemmas.List.{map-id, set_at, take_at, drop_at, drop_more, replicate_more, append_assoc, length-replicate, length-append, length-drop, get_or_append_left}
 
 -- a front of i entries, and then what stood there: the next entry is written
 pub front_more : {A : Type 0} (front front' old : List A) (i : ℕ) (v : A) → i < length old → length front ≡ i → front ++ v ∷ [] ≡ front'
@@ -45,3 +45,9 @@ length-tabled n f old h = simp (length-append, length-map-range_with_len, length
 pub tabled_again : {A : Type 0} (n : ℕ) (f : ℕ → A) (cur old : List A) → cur ≡ tabled n f old → cur ≡ tabled n f cur
 tabled_again n f cur old e =
     e ∙ ap (λ l. map f (range_with_len 0 n) ++ l) (sym (ap (drop n) e ∙ drop_at (map f (range_with_len 0 n)) (drop n old) n (length-map-range_with_len f 0 n)))
+
+-- the step of a loop that counts up
+pub counted_more : (old : List ℕ) (i v : ℕ) (cur : List ℕ) → cur ≡ range_with_len 0 i ++ drop i old → i < length old → v ≡ i → set cur i v ≡ range_with_len 0 (i + 1) ++ drop (i + 1) old
+counted_more old i v cur inv h e =
+    let more : range_with_len 0 i ++ i ∷ [] ≡ range_with_len 0 (i + 1) = sym (simp map-id at (map-range_with_len_more (λ (x : ℕ). x) 0 i i (omega arith))) in
+    ap (λ l. set l i v) inv ∙ front_more (range_with_len 0 i) (range_with_len 0 (i + 1)) old i v h (length-range_with_len 0 i) (ap (λ x. range_with_len 0 i ++ x ∷ []) e ∙ more)

@@ -1,7 +1,8 @@
 -- The spans that leave a node are those whose tail it is.
 use Rattle.std.proofs.Common.{◌≡◌, ℕ, zero, suc, ◌+◌, ◌<◌, ◌≤◌, Bool, true, false, cond, eqb, List, [], ◌∷◌, filter, length, get_or, take, slice_range, sym, refl, ap, ◌∙◌, subst, ⊎_elim, arith}
-use Rattle.std.specs.List.{range_with_len}
+use Rattle.std.specs.List.{range_with_len, Contains}
 use Rattle.std.proofs.lemmas.Bool.{cases_eq, cond-true, eq-eqb, eqb-true, ne_eqb}
+use Rattle.std.proofs.lemmas.Grind.{get_or_default_zero}
 use Rattle.network.specs.declared.counts.Counts.{Counts}
 use Rattle.network.specs.declared.span.Span.{Span}
 use Rattle.network.specs.Limits.{Joined, span_at}
@@ -17,7 +18,7 @@ further : (b : Bool) (a e : ℕ) (es : List ℕ) → Listed es e → Listed (con
 further true a e es h = (suc h.0, omega (arith, h.1), h.2)
 further false a e es h = h
 
-kept : (p : ℕ → Bool) (a n e : ℕ) → a ≤ e → e < a + n → p e ≡ true → Listed (filter p (range_with_len a n)) e
+pub kept : (p : ℕ → Bool) (a n e : ℕ) → a ≤ e → e < a + n → p e ≡ true → Listed (filter p (range_with_len a n)) e
 kept p a zero e h l t = absurd (omega arith)
 kept p a (suc n) e h l t =
     let es = filter p (range_with_len (a + 1) n) in
@@ -34,6 +35,10 @@ passing_on p a es on false q i h = on i h
 passing : (p : ℕ → Bool) (a n i : ℕ) → i < length (filter p (range_with_len a n)) → p (get_or (filter p (range_with_len a n)) i 0) ≡ true
 passing p a zero i h = absurd (omega (arith, h))
 passing p a (suc n) i h = passing_on p a (filter p (range_with_len (a + 1) n)) (passing p (a + 1) n) (p a) refl i h
+
+-- the same, as the library says it
+pub Contains-from_Listed : (es : List ℕ) (e : ℕ) → Listed es e → Contains es e
+Contains-from_Listed es e h = (h.0, h.1, get_or_default_zero es h.0 e h.1 ∙ h.2)
 
 module _ (w : Net) (u : ℕ) where
   -- each of them has the node for its tail

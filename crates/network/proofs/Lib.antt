@@ -1,6 +1,12 @@
 pub mod Charged
+pub mod Entering
 pub mod Entries
 pub mod Filled
+pub mod Laid
 pub mod Leaving
+pub mod Parts
+pub mod Ranked
 pub mod Rowed
+pub mod Sorts
+pub mod Ways
 pub mod Ended

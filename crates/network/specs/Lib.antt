@@ -4,5 +4,7 @@ pub mod Spacings
 pub mod Extents
 pub mod Limits
 pub mod Indexes
+pub mod Rates
 pub mod Net
+pub mod Rows
 pub mod Steps
