@@ -2,7 +2,7 @@
 use Rattle.std.proofs.Common.{arith}
 use Rattle.std.proofs.lemmas.Bool.Decides.{nat_tests}
 use Rattle.std.specs.Prelude.{nat_le}
-use Rattle.cost.specs.Laws.{Ops, Laws, total_by, transitive_by}
+use Rattle.cost.specs.Laws.{Ops, Laws, Grows, total_by, transitive_by}
 use Rattle.cost.specs.Sums.{fee, plus}
 use Rattle.cost.specs.declared.fee.Fee.{Fee}
 
@@ -16,3 +16,6 @@ toll_laws = record {
   monotone = (λ a b w h e. grind (arith, nat_tests), λ a b w h e. grind (arith, nat_tests));
   upward = (λ a w h. grind (arith, nat_tests), λ a w h. grind (arith, nat_tests));
 }
+
+pub toll_grows : Grows toll_ops
+toll_grows = (λ a w x l h. grind (arith, nat_tests), λ a w x l h. grind (arith, nat_tests))

@@ -1,5 +1,6 @@
+ghost use Rattle.std.specs.Prelude.{true};
 ghost use Rattle.cost.specs.Sums.{fee_text};
-ghost use Rattle.book_day.specs.Toll.{toll_ops, toll_laws};
+ghost use Rattle.book_day.specs.Toll.{toll_ops, toll_laws, toll_grows};
 ghost use Rattle.std.proofs.Common.{rules};
 
 use super::hands::{open, spent};
@@ -30,7 +31,11 @@ impl Kind for Toll {
 
     ghost text = { fee_text };
 
+    ghost grows = { true };
+
     ghost laws = { toll_laws };
+
+    ghost growth = { λ e. toll_grows };
 
     ghost printed = { Prim.search rules };
 
@@ -48,6 +53,10 @@ impl Kind for Toll {
 
     fn at_most(&self, a: Fee, b: Fee) -> bool {
         a <= b
+    }
+
+    fn grows(&self) -> bool {
+        true
     }
 }
 

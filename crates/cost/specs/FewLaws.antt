@@ -1,9 +1,9 @@
--- FEW shows the four laws.
+-- FEW shows the four laws, and grows with the tariffs.
 use Rattle.std.specs.Prelude.{ℕ, ◌+◌}
 use Rattle.std.proofs.Common.{arith}
 use Rattle.std.proofs.Math.Nat.{add-zero}
 use Rattle.std.proofs.lemmas.Bool.Decides.{nat_tests}
-use Rattle.cost.specs.Laws.{Laws, IsMonotone, IsUpward}
+use Rattle.cost.specs.Laws.{Laws, Grows, IsMonotone, IsUpward}
 use Rattle.cost.specs.Sums.{plus}
 use Rattle.cost.specs.Fews.{tally, few_at_most, few_ops}
 
@@ -21,3 +21,6 @@ few_laws = record {
   monotone = (simp add-zero at (monotone 0), monotone 1);
   upward = (simp add-zero at (upward 0), upward 1);
 }
+
+pub few_grows : Grows few_ops
+few_grows = (λ a w x l h. grind (arith, nat_tests), λ a w x l h. grind (arith, nat_tests))

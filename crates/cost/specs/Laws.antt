@@ -1,5 +1,5 @@
 -- What a kind of cost is, and the four laws that it shows.
-use Rattle.std.specs.Prelude.{◌≡◌, ℕ, ◌<◌, Bool, true, ◌||◌, nat_le}
+use Rattle.std.specs.Prelude.{◌≡◌, ℕ, ◌<◌, ◌≤◌, Bool, true, ◌||◌, nat_le}
 use Rattle.std.proofs.Common.{arith}
 use Rattle.std.proofs.lemmas.Bool.Decides.{nat_tests}
 use Rattle.network.specs.Tariffs.{absent}
@@ -31,6 +31,14 @@ pub record Laws {V : Type 0} (o : Ops V) : Type 0 where
   pub transitive : IsTransitive o.at_most
   pub monotone : IsMonotone o.at_most o.span × IsMonotone o.at_most o.conversion
   pub upward : IsUpward o.at_most o.span × IsUpward o.at_most o.conversion
+
+-- a step at a larger tariff makes no value less than at a smaller
+abbrev pub IsGrowing : {V : Type 0} → (V → V → Bool) → (V → ℕ → V) → Type 0
+IsGrowing {V} at_most step = (a : V) (w x : ℕ) → w ≤ x → x < absent → at_most (step a w) (step a x) ≡ true
+
+-- what a kind may show beside: it grows with the tariffs
+abbrev pub Grows : {V : Type 0} → Ops V → Type 0
+Grows o = IsGrowing o.at_most o.span × IsGrowing o.at_most o.conversion
 
 -- values of which each is compared by a number, its key
 pub total_by : {V : Type 0} (key : V → ℕ) → IsTotal (λ a b. nat_le (key a) (key b))

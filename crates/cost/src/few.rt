@@ -1,5 +1,6 @@
+ghost use Rattle.std.specs.Prelude.{true};
 ghost use Rattle.cost.specs.Fews.{few_ops, tally_text};
-ghost use Rattle.cost.specs.FewLaws.{few_laws};
+ghost use Rattle.cost.specs.FewLaws.{few_laws, few_grows};
 ghost use Rattle.std.proofs.Common.{rules};
 
 use super::fee::Fee;
@@ -17,7 +18,11 @@ impl Kind for Few {
 
     ghost text = { tally_text };
 
+    ghost grows = { true };
+
     ghost laws = { few_laws };
+
+    ghost growth = { λ e. few_grows };
 
     ghost printed = { Prim.search rules };
 
@@ -35,5 +40,9 @@ impl Kind for Few {
 
     fn at_most(&self, a: Tally, b: Tally) -> bool {
         a.key() <= b.key()
+    }
+
+    fn grows(&self) -> bool {
+        true
     }
 }

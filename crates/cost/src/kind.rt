@@ -1,5 +1,5 @@
-ghost use Rattle.std.specs.Prelude.{◌≡◌, ℕ, List, Some};
-ghost use Rattle.cost.specs.Laws.{Ops, Laws};
+ghost use Rattle.std.specs.Prelude.{◌≡◌, ℕ, Bool, true, List, Some};
+ghost use Rattle.cost.specs.Laws.{Ops, Laws, Grows};
 
 use std::fmt::Display;
 
@@ -30,7 +30,16 @@ pub trait Kind {
     fn at_most(&self, a: Self::Value, b: Self::Value) -> bool
         ensures { result ≡ ops.at_most a b };
 
+    ghost grows: { Bool };
+
+    // Whether a larger tariff never costs less. A kind need not be so; by one that is, a search need
+    // not look at what is dearer than a step that costs too much.
+    fn grows(&self) -> bool
+        ensures { result ≡ grows };
+
     ghost laws: { Laws ops };
+
+    ghost growth: { grows ≡ true → Grows ops };
 
     ghost printed: { (v : Self.Value) → Self.Value.Display.output v ≡ Some (text v) };
 }

@@ -1,5 +1,6 @@
+ghost use Rattle.std.specs.Prelude.{true};
 ghost use Rattle.cost.specs.Sums.{sum_ops, fee_text};
-ghost use Rattle.cost.specs.SumLaws.{sum_laws};
+ghost use Rattle.cost.specs.SumLaws.{sum_laws, sum_grows};
 ghost use Rattle.std.proofs.Common.{rules};
 
 use super::fee::Fee;
@@ -16,7 +17,11 @@ impl Kind for Sum {
 
     ghost text = { fee_text };
 
+    ghost grows = { true };
+
     ghost laws = { sum_laws };
+
+    ghost growth = { λ e. sum_grows };
 
     ghost printed = { Prim.search rules };
 
@@ -34,5 +39,9 @@ impl Kind for Sum {
 
     fn at_most(&self, a: Fee, b: Fee) -> bool {
         a <= b
+    }
+
+    fn grows(&self) -> bool {
+        true
     }
 }

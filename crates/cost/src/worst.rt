@@ -1,6 +1,6 @@
-ghost use Rattle.std.specs.Prelude.{decimal};
+ghost use Rattle.std.specs.Prelude.{true, decimal};
 ghost use Rattle.cost.specs.Worsts.{worst_ops};
-ghost use Rattle.cost.specs.WorstLaws.{worst_laws};
+ghost use Rattle.cost.specs.WorstLaws.{worst_laws, worst_grows};
 ghost use Rattle.std.proofs.Common.{rules};
 
 use super::kind::Kind;
@@ -16,7 +16,11 @@ impl Kind for Worst {
 
     ghost text = { decimal };
 
+    ghost grows = { true };
+
     ghost laws = { worst_laws };
+
+    ghost growth = { λ e. worst_grows };
 
     ghost printed = { Prim.search rules };
 
@@ -34,5 +38,9 @@ impl Kind for Worst {
 
     fn at_most(&self, a: u16, b: u16) -> bool {
         a <= b
+    }
+
+    fn grows(&self) -> bool {
+        true
     }
 }

@@ -1,5 +1,6 @@
+ghost use Rattle.std.specs.Prelude.{true};
 ghost use Rattle.cost.specs.Sums.{fee_text};
-ghost use Rattle.search_cases.specs.Late.{late_ops, late_laws};
+ghost use Rattle.search_cases.specs.Late.{late_ops, late_laws, late_grows};
 ghost use Rattle.std.proofs.Common.{rules};
 
 use super::asked::{all, cheapest, on};
@@ -25,7 +26,11 @@ impl Kind for Late {
 
     ghost text = { fee_text };
 
+    ghost grows = { true };
+
     ghost laws = { late_laws };
+
+    ghost growth = { λ e. late_grows };
 
     ghost printed = { Prim.search rules };
 
@@ -43,6 +48,10 @@ impl Kind for Late {
 
     fn at_most(&self, a: Fee, b: Fee) -> bool {
         a <= b
+    }
+
+    fn grows(&self) -> bool {
+        true
     }
 }
 
