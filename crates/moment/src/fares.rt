@@ -1,10 +1,10 @@
 ghost use Rattle.std.specs.Prelude.{◌≡◌};
 ghost use Rattle.network.specs.Net.{net};
-ghost use Rattle.semilightpath.specs.Rates.{rate_of};
 ghost use Rattle.moment.specs.Usable.{span_is_open, channel_is_free, fare_at};
-ghost use Rattle.moment.specs.Charged.{fare_charged, fare_told};
+ghost use Rattle.moment.specs.Charged.{fare_carried};
 
 use super::Moment;
+use network::Network;
 use network::step::Step;
 use records::chain::channel_at;
 use records::state::SpanState;
@@ -27,13 +27,15 @@ impl Moment<'_, '_, '_, '_, '_> {
 }
 
 impl Fares for Moment<'_, '_, '_, '_, '_> {
+    ghost over = { λ m. net m.network.now };
+
     ghost fare = { λ m e. fare_at (net m.network.now) m.channels.now m.spans.now e };
 
-    ghost rate = { λ m e. rate_of (net m.network.now) e };
+    ghost carried = { λ m e. fare_carried (net m.network.now) m.channels.now m.spans.now e };
 
-    ghost charged = { λ m e. fare_charged (net m.network.now) m.channels.now m.spans.now e };
-
-    ghost told = { λ m e. fare_told (net m.network.now) m.channels.now m.spans.now e };
+    fn network(&self) -> &Network<'_, '_> {
+        self.network
+    }
 
     fn fare(&self, step: Step) -> Option<u16> {
         let span = usize::from(step.span);
@@ -41,9 +43,5 @@ impl Fares for Moment<'_, '_, '_, '_, '_> {
             return None;
         }
         self.network.tariff(span, usize::from(step.channel))
-    }
-
-    fn rate(&self, step: Step) -> u16 {
-        self.network.rate(step)
     }
 }

@@ -21,7 +21,6 @@ pub fn price_standing<K: Kind>(
     ensures { result ≡ cost K.ops (alone (net network.now)) (along (net network.now).counts channels.now (Some route)) }
 {
     let extent = network.extent();
-    let tariffs = *network;
     let mut value = kind.start();
     let mut entered = None;
     let mut at = Some(route.first);
@@ -29,7 +28,7 @@ pub fn price_standing<K: Kind>(
         let Some(step) = at else {
             return value;
         };
-        value = priced(kind, network, &tariffs, value, entered, step);
+        value = priced(kind, network, value, entered, step);
         entered = Some(step.channel);
         at = next_step(extent, channels, step);
     }

@@ -38,7 +38,7 @@ impl Closed<'_> {
             channels,
             spans: self.spans,
         };
-        search(kind, network, &moment, from, to, labels)
+        search(kind, &moment, from, to, labels)
     }
 }
 

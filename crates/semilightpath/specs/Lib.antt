@@ -2,4 +2,4 @@ pub mod Scenes
 pub mod Paths
 pub mod Costs
 pub mod Cheapest
-pub mod Rates
+pub mod Carried

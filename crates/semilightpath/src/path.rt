@@ -1,5 +1,4 @@
 ghost use Rattle.std.specs.Prelude.{◌≡◌, ◌↔◌, IsTrue};
-ghost use Rattle.network.specs.Net.{net};
 ghost use Rattle.network.specs.Steps.{on, distinct};
 ghost use Rattle.semilightpath.specs.Scenes.{scene};
 ghost use Rattle.semilightpath.specs.Paths.{IsSemilightpath};
@@ -8,26 +7,19 @@ ghost use Rattle.semilightpath.specs.Costs.{cost};
 use super::fares::Fares;
 use super::step::{ends, goes_on, priced};
 use cost::kind::Kind;
-use network::Network;
 use network::step::Step;
 
 // Whether a path is a semilightpath from one node to another.
-pub fn is_semilightpath<F: Fares>(
-    network: &Network,
-    fares: &F,
-    from: usize,
-    to: usize,
-    path: &[Step],
-) -> bool
-    ensures { IsTrue result ↔ IsSemilightpath (scene (net network.now) (F.fare fares.now)) from to path.now }
+pub fn is_semilightpath<F: Fares>(fares: &F, from: usize, to: usize, path: &[Step]) -> bool
+    ensures { IsTrue result ↔ IsSemilightpath (scene (F.over fares.now) (F.fare fares.now)) from to path.now }
 {
     let mut node = from;
     let mut entered = None;
     for step in path {
-        if !goes_on(network, fares, node, entered, *step) {
+        if !goes_on(fares, node, entered, *step) {
             return false;
         }
-        node = usize::from(ends(network, *step).head);
+        node = usize::from(ends(fares.network(), *step).head);
         entered = Some(step.channel);
     }
     node == to && !path.is_empty()
@@ -35,13 +27,13 @@ pub fn is_semilightpath<F: Fares>(
 
 // What a path costs, from left to right. It is told of any steps, so that whoever asks need not
 // judge them first.
-pub fn cost<K: Kind, F: Fares>(kind: &K, network: &Network, fares: &F, path: &[Step]) -> K::Value
-    ensures { result ≡ cost K.ops (scene (net network.now) (F.fare fares.now)) path.now }
+pub fn cost<K: Kind, F: Fares>(kind: &K, fares: &F, path: &[Step]) -> K::Value
+    ensures { result ≡ cost K.ops (scene (F.over fares.now) (F.fare fares.now)) path.now }
 {
     let mut value = kind.start();
     let mut entered = None;
     for step in path {
-        value = priced(kind, network, fares, value, entered, *step);
+        value = priced(kind, fares, value, entered, *step);
         entered = Some(step.channel);
     }
     value

@@ -3,10 +3,9 @@ ghost use Rattle.network.specs.Net.{net};
 ghost use Rattle.cost.specs.Charges.{after_all};
 ghost use Rattle.semilightpath.specs.Scenes.{scene};
 ghost use Rattle.semilightpath.specs.Paths.{tail_of, head_of, GoesOn, Joins};
-ghost use Rattle.semilightpath.specs.Costs.{conversion, left, after_step};
+ghost use Rattle.semilightpath.specs.Costs.{conversion, after_step};
 
 use super::fares::Fares;
-use super::point::Point;
 use cost::kind::Kind;
 use network::Network;
 use network::span::Span;
@@ -37,15 +36,10 @@ fn joins(network: &Network, node: usize, entered: Option<u8>, channel: u8) -> bo
 }
 
 // Whether a path that stands at a node, entered on this channel if on any, can go on by a step.
-pub(crate) fn goes_on<F: Fares>(
-    network: &Network,
-    fares: &F,
-    node: usize,
-    entered: Option<u8>,
-    step: Step,
-) -> bool
-    ensures { IsTrue result ↔ GoesOn (scene (net network.now) (F.fare fares.now)) (record { node = node; entered = entered }) step }
+pub(crate) fn goes_on<F: Fares>(fares: &F, node: usize, entered: Option<u8>, step: Step) -> bool
+    ensures { IsTrue result ↔ GoesOn (scene (F.over fares.now) (F.fare fares.now)) (record { node = node; entered = entered }) step }
 {
+    let network = fares.network();
     let Some(span) = network.span(usize::from(step.span)) else {
         return false;
     };
@@ -79,39 +73,17 @@ fn converted<K: Kind>(
     kind.after_conversion(value, tariff.unwrap_or(LARGEST_TARIFF))
 }
 
-// The value after a path that stands at a point has left it on a channel, whether or not it can:
-// changing channels is charged.
-pub fn left<K: Kind>(
-    kind: &K,
-    network: &Network,
-    value: K::Value,
-    point: Point,
-    channel: u8,
-) -> K::Value
-    ensures { result ≡ left K.ops (net network.now) point value channel }
-{
-    let node = usize::from(point.node);
-    converted(kind, network, value, node, point.entered, channel)
-}
-
-// Whether a path that stands at a point can leave it on a channel.
-pub fn can_leave(network: &Network, point: Point, channel: u8) -> bool
-    ensures { IsTrue result ↔ Joins (net network.now) point channel }
-{
-    joins(network, usize::from(point.node), point.entered, channel)
-}
-
 // The value after what one more step charges, whether or not a path can go on by it.
 pub fn priced<K: Kind, F: Fares>(
     kind: &K,
-    network: &Network,
     fares: &F,
     value: K::Value,
     entered: Option<u8>,
     step: Step,
 ) -> K::Value
-    ensures { result ≡ after_step K.ops (scene (net network.now) (F.fare fares.now)) entered value step }
+    ensures { result ≡ after_step K.ops (scene (F.over fares.now) (F.fare fares.now)) entered value step }
 {
+    let network = fares.network();
     let node = usize::from(ends(network, step).tail);
     let converted = converted(kind, network, value, node, entered, step.channel);
     kind.after_span(converted, fares.fare(step).unwrap_or(LARGEST_TARIFF))

@@ -68,15 +68,15 @@ mod tests {
 
     // Whether a path is a semilightpath at a moment.
     fn leads(moment: &Moment, from: usize, to: usize, path: &[Step]) -> bool {
-        is_semilightpath(moment.network, moment, from, to, path)
+        is_semilightpath(moment, from, to, path)
     }
 
     // What a path costs by each kind.
     fn costs(moment: &Moment, path: &[Step]) -> (Fee, Tally, u16) {
         (
-            cost(&Sum, moment.network, moment, path),
-            cost(&Few, moment.network, moment, path),
-            cost(&Worst, moment.network, moment, path),
+            cost(&Sum, moment, path),
+            cost(&Few, moment, path),
+            cost(&Worst, moment, path),
         )
     }
 
@@ -141,11 +141,8 @@ mod tests {
         let network = plan.network(&tariffs, &converters);
         // A copy, since one reference cannot be passed for both.
         let fares = network;
-        assert!(rt;
-            is_semilightpath(&network, &fares, 0, 3, &BY_NODE_1),
-            "by node 1"
-        );
-        assert_eq!(rt; cost(&Sum, &network, &fares, &BY_NODE_1), Fee::new(6));
+        assert!(rt; is_semilightpath(&fares, 0, 3, &BY_NODE_1), "by node 1");
+        assert_eq!(rt; cost(&Sum, &fares, &BY_NODE_1), Fee::new(6));
         Ok(())
     }
 

@@ -1,5 +1,4 @@
 use Rattle.std.proofs.Common.{◌≡◌, ℕ, List, ◌↔◌, drop}
-use Rattle.network.specs.Net.{net}
 use Rattle.network.specs.declared.step.Step.{Step}
 use Rattle.semilightpath.specs.declared.point.Point.{Point}
 use Rattle.semilightpath.specs.Scenes.{Scene, scene}
@@ -13,5 +12,5 @@ Leads g a p t = Goes g a p × ((end_of g.net a p).node ≡ t)
 -- the path leads to t just where what is left of it does
 abbrev pub invariant-loop-step : goal.invariant-loop-step
 invariant-loop-step g l =
-    let s = scene (net l.network) (g.F.Fares.fare l.fares) in
+    let s = scene (g.F.Fares.over l.fares) (g.F.Fares.fare l.fares) in
     Leads s (begin l.from) l.path l.to ↔ Leads s (record { node = l.node; entered = l.entered }) (drop l.step-index l.path) l.to
