@@ -94,8 +94,13 @@ def by_worst(cost, turn, tariff):
     return max(cost, turn or 0, tariff)
 
 
+def by_upside(cost, turn, tariff):
+    turned = cost if turn is None else min(cost + 65534 - turn, TOP)
+    return min(turned + 65534 - tariff, TOP)
+
+
 # each kind: its start, and the cost after one more step
-KINDS = [(0, by_sum), ((0, 0), by_few), (0, by_worst)]
+KINDS = [(0, by_sum), ((0, 0), by_few), (0, by_worst), (0, by_upside)]
 
 
 def least_costs(network, kind, source):
@@ -180,8 +185,8 @@ def sample(shut):
 
 
 # worked by hand: docs/semilightpaths.md
-assert [least_costs(sample(False), kind, 0)[3] for kind in KINDS] == [6, (0, 9), 3]
-assert [least_costs(sample(True), kind, 0)[3] for kind in KINDS] == [9, (0, 9), 5]
+assert [least_costs(sample(False), kind, 0)[3] for kind in KINDS] == [6, (0, 9), 3, 131059]
+assert [least_costs(sample(True), kind, 0)[3] for kind in KINDS] == [9, (0, 9), 5, 131059]
 assert not least_costs(sample(False), KINDS[0], 3)
 
 lines = [line(*group) for group in GROUPS]

@@ -69,7 +69,7 @@ impl Book<'_, '_, '_> {
             channels: self.lent.channels,
             spans: self.lent.spans,
         };
-        search(kind, network, &moment, from, to, labels)
+        search(kind, &moment, from, to, labels)
     }
 
     // A circuit takes the path that a search has found.

@@ -13,12 +13,15 @@ use Rattle.semilightpath.specs.declared.point.Point.{Point}
 use Rattle.semilightpath.specs.Scenes.{Scene}
 use Rattle.semilightpath.specs.Paths.{begin, GoesOn, Goes, end_of, IsSemilightpath}
 use Rattle.semilightpath.specs.Costs.{step_charges, charges, after_step, cost}
-use Rattle.semilightpath.specs.Cheapest.{IsCheapest, HasNone}
+use Rattle.semilightpath.specs.Cheapest.{IsCheapest}
 use Rattle.semilightpath.proofs.Prices.{left_upward, left_monotone, step_monotone, charges_tariffs, charges_upward}
 use Rattle.search.specs.declared.arrival.Arrival.{Arrival}
+use Rattle.search.specs.declared.goal.Goal.{Goal}
+use Rattle.search.specs.Goals.{is_bound}
 use Rattle.search.specs.Labels.{Labels, cost_of, IsInside, is_settled, back, trail, arrival, arrival_of, point_of}
-use Rattle.search.specs.Invariants.{KnownAtMost, ReachedAtMost, Covered, Covers, Ready, Moved, IsLeast, NoneOpen, NotYet, Searching}
+use Rattle.search.specs.Invariants.{KnownAtMost, ReachedAtMost, Covered, Covers, Ready, Moved, IsReached, NotYet, Searching}
 use Rattle.search.proofs.Trails.{trail_is, leads_shown, path_short, distinct_apart}
+use Rattle.search.proofs.Frontiers.{bound_more}
 use Rattle.search.proofs.Proposals.{known_more}
 
 module _ {V : Type 0} {o : Ops V} (laws : Laws o) (g : Scene) (s : ℕ) (ls : Labels V) (unknown : (x : Arrival) → ls x ≡ None) where
@@ -109,26 +112,24 @@ module _ {V : Type 0} {o : Ops V} (laws : Laws o) (g : Scene) (charged : (e : St
       subst OpenAtMost (sym (on None o.start e q))
       (stepped e q (λ w k. follow q (arrival_of g.net e) w k h.1.1 h.2) (begin s) o.start h.1.0 (searching.first e h.1.0))
 
-  pub none_is : NoneOpen ls → HasNone g s t
-  none_is none q h = let k = covered q h in none k.0 k.2.0 k.1 k.2.1
+  -- where no open arrival costs less than the best at t, no semilightpath does
+  pub reached_least : (h : Goal V) → IsReached o ls h → (q : List Step) → IsSemilightpath g s t q → is_bound o h.best (cost o g q) ≡ true
+  reached_least h reached q p =
+      let k = covered q p in
+      bound_more laws h.best k.2.0 (cost o g q) (reached k.0 k.2.0 k.1 k.2.1) k.2.2
 
-  pub least_is : (x : Arrival) (v : V) → IsLeast o ls x v → (q : List Step) → IsSemilightpath g s t q → o.at_most v (cost o g q) ≡ true
-  least_is x v least q h =
-      let k = covered q h in
-      laws.transitive v k.2.0 (cost o g q) (least.least k.0 k.2.0 k.1 k.2.1) k.2.2
-
-  -- the path that the labels lead along to the least open arrival, where that is at t; it is read off them, or off others that show as much
+  -- the path that the labels lead along to an arrival at t which costs no more than any semilightpath; it is read off them, or off others that show as much
   pub found_is : (ms : Labels V) → ((x : Arrival) (r : Step × Point) → back (ls x) ≡ Some r → IsInside g.net.counts x) → ((x : Arrival) (r : Step × Point) → back (ls x) ≡ Some r → back (ms x) ≡ Some r)
-      → (x : Arrival) (v : V) → IsLeast o ls x v → x.node ≡ t → IsCheapest o g s t (trail ms (arrival_entries g.net.counts) (point_of x)) v
-  found_is ms inside shows x v least e =
-      let r = searching.sound.reach x v least.known in
+      → (x : Arrival) (v : V) → cost_of (ls x) ≡ Some v → ((q : List Step) → IsSemilightpath g s t q → o.at_most v (cost o g q) ≡ true) → x.node ≡ t → IsCheapest o g s t (trail ms (arrival_entries g.net.counts) (point_of x)) v
+  found_is ms inside shows x v known least e =
+      let r = searching.sound.reach x v known in
       let short = path_short g.net ls (begin s) r.path (point_of x) inside r.leads r.once in
       let is = trail_is g.net ms s r.path (point_of x) (arrival_entries g.net.counts) (leads_shown g.net ls ms (begin s) r.path (point_of x) shows r.leads) short in
       subst (λ (p : List Step). IsCheapest o g s t p v) (sym is) (record {
         path = (some r.path r.ends, r.goes, ap (λ (a : Point). a.node) r.ends ∙ e);
         once = distinct_apart g.net r.path r.once;
         priced = r.costs;
-        least = least_is x v least;
+        least = least;
       })
     where
       some : (p : List Step) → end_of g.net (begin s) p ≡ point_of x → 1 ≤ length p

@@ -8,6 +8,8 @@ pub mod Counting
 pub mod Trails
 pub mod Counts
 pub mod Frontiers
+pub mod Alongs
+pub mod Entries
 pub mod Tries
 pub mod Left
 pub mod Runs

@@ -12,6 +12,7 @@ use Rattle.semilightpath.specs.Costs.{left, after_step, cost}
 use Rattle.search.specs.declared.arrival.Arrival.{Arrival}
 use Rattle.search.specs.declared.label.Known.{Known}
 use Rattle.search.specs.declared.goal.Goal.{Goal}
+use Rattle.search.specs.Goals.{is_bound}
 use Rattle.search.specs.Labels.{Labels, cost_of, is_settled, back, arrival, arrival_of, point_of}
 
 -- the same arrival
@@ -59,9 +60,14 @@ pub record Sound {V : Type 0} (o : Ops V) (g : Scene) (s : ℕ) (ls : Labels V) 
 abbrev pub ReachedAtMost : {V : Type 0} → Ops V → Labels V → ℕ → V → Type 0
 ReachedAtMost o ls t v = (y : Arrival) × (y.node ≡ t) × KnownAtMost o ls y v
 
--- some arrival at a goal is known, at no more than its bound
-abbrev pub Bounds : {V : Type 0} → Ops V → Labels V → Goal V → Type 0
-Bounds o ls h = IfSome h.bound (ReachedAtMost o ls h.node)
+-- the best arrival at a goal is known, and none there costs less
+pub record Bounds {V : Type 0} (o : Ops V) (ls : Labels V) (h : Goal V) : Type 0 where
+  pub known : IfSome h.best (λ b. cost_of (ls (arrival h.node b.channel)) ≡ Some b.cost)
+  pub nearest : (y : Arrival) (v : V) → y.node ≡ h.node → cost_of (ls y) ≡ Some v → is_bound o h.best v ≡ true
+
+-- no open arrival costs less than the best at the goal
+abbrev pub IsReached : {V : Type 0} → Ops V → Labels V → Goal V → Type 0
+IsReached {V} o ls h = (y : Arrival) (v : V) → is_settled (ls y) ≡ false → cost_of (ls y) ≡ Some v → is_bound o h.best v ≡ true
 
 -- a's node is known to be entered on another channel than it was, on c, and to be left on it at no more
 abbrev pub LeftAtMost : {V : Type 0} → Ops V → Scene → Labels V → Point → V → ℕ → Type 0
@@ -109,10 +115,6 @@ pub record IsLeast {V : Type 0} (o : Ops V) (ls : Labels V) (x : Arrival) (v : V
   pub known : cost_of (ls x) ≡ Some v
   pub unsettled : is_settled (ls x) ≡ false
   pub least : (y : Arrival) (w : V) → is_settled (ls y) ≡ false → cost_of (ls y) ≡ Some w → o.at_most v w ≡ true
-
--- no arrival is known and open
-abbrev pub NoneOpen : {V : Type 0} → Labels V → Type 0
-NoneOpen {V} ls = (y : Arrival) (w : V) → is_settled (ls y) ≡ false → cost_of (ls y) ≢ Some w
 
 -- no arrival at t is settled
 abbrev pub NotYet : {V : Type 0} → ℕ → Labels V → Type 0

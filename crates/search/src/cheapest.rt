@@ -1,9 +1,9 @@
 ghost use Rattle.std.specs.Prelude.{◌≡◌, ◌≤◌, length, drop, IsSome};
-ghost use Rattle.network.specs.Net.{net};
 ghost use Rattle.network.specs.Tariffs.{arrival_entries};
 ghost use Rattle.semilightpath.specs.Scenes.{scene};
 ghost use Rattle.search.specs.Answers.{refusal, IsOutcome, Answers};
 
+use super::entry::is_entered;
 use super::found::Found;
 use super::goal::Goal;
 use super::label::Label;
@@ -12,7 +12,6 @@ use super::run::run;
 use super::work::Work;
 use cost::kind::Kind;
 use fault::book::BookFault;
-use network::Network;
 use semilightpath::fares::Fares;
 use semilightpath::point::Point;
 
@@ -21,18 +20,17 @@ use semilightpath::point::Point;
 // stays open, and what the labels hold beside it; labels beyond those that the network needs stay.
 pub fn search<K: Kind, F: Fares>(
     kind: &K,
-    network: &Network,
     fares: &F,
     from: usize,
     to: usize,
     labels: &mut [Label<K::Value>],
 ) -> Result<Found<K::Value>, BookFault>
-    ensures answer { Answers K.ops (scene (net network.now) (F.fare fares.now)) from to labels.new (refusal (net network.now).counts from to (length labels.old)) result }
-    ensures refused { IsSome (refusal (net network.now).counts from to (length labels.old)) → labels.new ≡ labels.old }
+    ensures answer { Answers K.ops (scene (F.over fares.now) (F.fare fares.now)) from to labels.new (refusal (F.over fares.now).counts from to (length labels.old)) result }
+    ensures refused { IsSome (refusal (F.over fares.now).counts from to (length labels.old)) → labels.new ≡ labels.old }
     ensures long { length labels.new ≡ length labels.old }
-    ensures beyond { drop (arrival_entries (net network.now).counts) labels.new ≡ drop (arrival_entries (net network.now).counts) labels.old }
+    ensures beyond { drop (arrival_entries (F.over fares.now).counts) labels.new ≡ drop (arrival_entries (F.over fares.now).counts) labels.old }
 {
-    let extent = network.extent();
+    let extent = fares.network().extent();
     let nodes = extent.counts().nodes;
     if from >= nodes || to >= nodes {
         return Err(BookFault::NoNode);
@@ -40,7 +38,7 @@ pub fn search<K: Kind, F: Fares>(
     if labels.len() < extent.arrival_entries() {
         return Err(BookFault::WorkTable);
     }
-    match cheapest(kind, network, fares, from as u8, to as u8, labels) {
+    match cheapest(kind, fares, from as u8, to as u8, labels) {
         Some(found) => Ok(found),
         None => Err(BookFault::NoPath),
     }
@@ -49,34 +47,29 @@ pub fn search<K: Kind, F: Fares>(
 // The same between nodes of the network, over a table that has room.
 fn cheapest<K: Kind, F: Fares>(
     kind: &K,
-    network: &Network,
     fares: &F,
     from: u8,
     to: u8,
     labels: &mut [Label<K::Value>],
 ) -> Option<Found<K::Value>>
-    requires room { arrival_entries (net network.now).counts ≤ length labels.old }
-    ensures answer { IsOutcome K.ops (scene (net network.now) (F.fare fares.now)) from to labels.new result }
+    requires room { arrival_entries (F.over fares.now).counts ≤ length labels.old }
+    ensures answer { IsOutcome K.ops (scene (F.over fares.now) (F.fare fares.now)) from to labels.new result }
     ensures long { length labels.new ≡ length labels.old }
-    ensures beyond { drop (arrival_entries (net network.now).counts) labels.new ≡ drop (arrival_entries (net network.now).counts) labels.old }
+    ensures beyond { drop (arrival_entries (F.over fares.now).counts) labels.new ≡ drop (arrival_entries (F.over fares.now).counts) labels.old }
 {
-    let mut work = Work::new(network.extent(), labels);
+    if !is_entered(fares, to) {
+        return None;
+    }
+    let mut work = Work::new(fares.network().extent(), labels);
     let mut goal = Goal {
         node: to,
-        bound: None,
+        best: None,
     };
     let point = Point {
         node: from,
         entered: None,
     };
     let cost = kind.start();
-    try_steps(
-        kind,
-        network,
-        fares,
-        &mut work,
-        &mut goal,
-        Stand { point, cost },
-    );
-    run(kind, network, fares, &mut work, &mut goal)
+    try_steps(kind, fares, &mut work, &mut goal, Stand { point, cost });
+    run(kind, fares, &mut work, &mut goal)
 }

@@ -1,6 +1,6 @@
 ghost use Rattle.std.specs.Prelude.{◌≤◌, length};
-ghost use Rattle.search.specs.Frontiers.{entry_at_most};
-ghost use Rattle.search.specs.Orders.{IsOrder-entry_at_most};
+ghost use Rattle.search.specs.Frontiers.{entry_cost};
+ghost use Rattle.search.specs.Orders.{IsOrder-at_most};
 
 use super::label::Label;
 use cost::kind::Kind;
@@ -16,19 +16,24 @@ pub(crate) struct Costs<'c, K: Kind> {
 }
 
 impl<K: Kind> Order for Costs<'_, K> {
+    type Key = K::Value;
+
     ghost size = { λ s. s.entries };
 
-    ghost most = { λ s. entry_at_most K.ops s.labels.now };
+    ghost key = { λ s. entry_cost K.ops s.labels.now };
 
-    fn at_most(&self, a: u16, b: u16) -> bool {
-        let Some(second) = self.labels[usize::from(b)] else {
-            return true;
-        };
-        let Some(first) = self.labels[usize::from(a)] else {
-            return false;
-        };
-        self.kind.at_most(first.cost, second.cost)
+    ghost most = { K.ops.at_most };
+
+    fn key(&self, x: u16) -> K::Value {
+        match self.labels[usize::from(x)] {
+            Some(known) => known.cost,
+            None => self.kind.start(),
+        }
     }
 
-    ghost laws = { λ s. IsOrder-entry_at_most K.laws s.labels.now };
+    fn at_most(&self, a: K::Value, b: K::Value) -> bool {
+        self.kind.at_most(a, b)
+    }
+
+    ghost laws = { IsOrder-at_most K.laws };
 }

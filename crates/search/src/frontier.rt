@@ -1,15 +1,16 @@
-ghost use Rattle.std.specs.Prelude.{◌≡◌, ◌≢◌, ℕ, ◌+◌, ◌-◌, ◌<◌, ◌≤◌, true, false, length, drop, Some, None, IfSome, MatchOption};
+ghost use Rattle.std.specs.Prelude.{◌≡◌, ◌≢◌, ℕ, ◌+◌, ◌-◌, ◌<◌, ◌≤◌, true, false, length, drop, slice_index, Some, None, IfSome, IsNone};
 ghost use Rattle.network.specs.Tariffs.{arrival_entry, arrival_entries};
 ghost use Rattle.heap.specs.Heaps.{Holds, Same, Seated, IsHeap, Beside, WasHeap};
-ghost use Rattle.search.specs.Works.{labels_of, KeepsRest};
-ghost use Rattle.search.specs.Labels.{better, settle, IsInside, cost_of};
-ghost use Rattle.search.specs.Invariants.{Written, NoneOpen, IsLeast};
+ghost use Rattle.search.specs.Works.{labels_of, top_cost, KeepsRest};
+ghost use Rattle.search.specs.Goals.{is_bound};
+ghost use Rattle.search.specs.Labels.{better, settle, IsInside, labels_in, cost_of};
+ghost use Rattle.search.specs.Invariants.{Written, IsLeast, IsReached};
 ghost use Rattle.search.specs.declared.arrival.Arrival.{Arrival};
-ghost use Rattle.search.specs.Tables.{begun_in};
-ghost use Rattle.search.specs.Frontiers.{is_open, label_at_most, entry_at_most};
+ghost use Rattle.search.specs.Frontiers.{is_open, cost_or, entry_at_most};
 
 use super::arrival::Arrival;
 use super::costs::Costs;
+use super::goal::{Goal, is_bound};
 use super::label::{Known, Label};
 use super::table::{self, entry_of};
 use super::work::Work;
@@ -30,28 +31,28 @@ fn arrival_at(extent: Extent, entry: u16) -> Arrival
     }
 }
 
-// A label whose cost is settled.
-fn settled<V: Copy>(label: Label<V>) -> Label<V>
-    ensures { result ≡ settle label }
+// Settles the cost of a label.
+fn settle_label<V: Copy>(label: &mut Label<V>)
+    ensures { label.new ≡ settle label.old }
 {
-    let known = label?;
-    Some(Known {
-        settled: true,
-        ..known
-    })
+    if let Some(known) = label {
+        known.settled = true;
+    }
 }
 
-// Writes that an arrival is settled.
-fn mark<V: Copy>(extent: Extent, begun: &mut [bool; 64], labels: &mut [Label<V>], arrival: Arrival)
+// Writes that the arrival of an entry is settled.
+#[tactic(auto, using(crate::proofs::Rows::settled_label, crate::proofs::Rows::other_label))]
+fn mark<V: Copy>(extent: Extent, labels: &mut [Label<V>], entry: u16, arrival: Arrival)
     requires wide { arrival_entries extent.counts ≤ length labels.old }
+    requires within { entry < arrival_entries extent.counts }
     requires inside { IsInside extent.counts arrival }
-    ensures written { begun_in extent.counts begun.new labels.new arrival ≡ settle (begun_in extent.counts begun.old labels.old arrival) }
-    ensures others { (x : Arrival) → x ≢ arrival → begun_in extent.counts begun.new labels.new x ≡ begun_in extent.counts begun.old labels.old x }
+    requires entry { arrival_entry extent.counts arrival.node arrival.channel ≡ entry }
+    ensures written { labels_in extent.counts labels.new arrival ≡ settle (labels_in extent.counts labels.old arrival) }
+    ensures others { (x : Arrival) → x ≢ arrival → labels_in extent.counts labels.new x ≡ labels_in extent.counts labels.old x }
     ensures long { length labels.new ≡ length labels.old }
     ensures beyond { drop (arrival_entries extent.counts) labels.new ≡ drop (arrival_entries extent.counts) labels.old }
 {
-    let label = settled(table::label_inside(extent, begun, labels, arrival));
-    table::write(extent, begun, labels, arrival, label);
+    settle_label(&mut labels[usize::from(entry)]);
 }
 
 // Takes an entry of the least cost out of the heap.
@@ -72,6 +73,7 @@ fn take_least<K: Kind>(
     ensures seated { Seated entries slots.new seats.new (count - 1) }
     ensures heap { IsHeap (entry_at_most K.ops labels.old) slots.new (count - 1) }
     ensures element { result < entries }
+    ensures top { result ≡ slice_index slots.old 0 }
     ensures least { (y : ℕ) → Holds slots.old count y → entry_at_most K.ops labels.old result y ≡ true }
     ensures beside { Beside slots.new (count - 1) result slots.old count }
     ensures gone { Holds slots.new (count - 1) result → ⊥ }
@@ -85,9 +87,10 @@ fn take_least<K: Kind>(
     pop_least(&order, slots, seats, count)
 }
 
-// Settles an open arrival of the least cost, where there is one.
-fn settle<K: Kind>(kind: &K, work: &mut Work<'_, K>) -> Arrival
+// Settles an open arrival of the least cost.
+pub(crate) fn settle<K: Kind>(kind: &K, work: &mut Work<'_, K>) -> Arrival
     requires { 0 < work.old.count }
+    ensures top { cost_of (labels_of work.old result) ≡ top_cost work.old }
     ensures open { is_open (labels_of work.old result) ≡ true }
     ensures least { (v : K.Value) → cost_of (labels_of work.old result) ≡ Some v → IsLeast K.ops (labels_of work.old) result v }
     ensures written { Written (labels_of work.old) (labels_of work.new) result (settle (labels_of work.old result)) }
@@ -95,7 +98,6 @@ fn settle<K: Kind>(kind: &K, work: &mut Work<'_, K>) -> Arrival
 {
     let Work {
         extent,
-        begun,
         labels,
         slots,
         seats,
@@ -104,22 +106,38 @@ fn settle<K: Kind>(kind: &K, work: &mut Work<'_, K>) -> Arrival
     let entry = take_least(kind, extent.arrival_entries(), labels, slots, seats, *count);
     *count -= 1;
     let arrival = arrival_at(*extent, entry);
-    mark(*extent, begun, labels, arrival);
+    mark(*extent, labels, entry, arrival);
     arrival
 }
 
-// Settles an open arrival of the least cost, and tells it with that cost; none where none is open.
-pub(crate) fn settle_least<K: Kind>(kind: &K, work: &mut Work<'_, K>) -> Option<(Arrival, K::Value)>
-    ensures least { MatchOption result (NoneOpen (labels_of work.old)) (λ r. IsLeast K.ops (labels_of work.old) r.0 r.1) }
-    ensures written { IfSome result (λ r. Written (labels_of work.old) (labels_of work.new) r.0 (settle (labels_of work.old r.0))) }
-    ensures rest { KeepsRest work.old work.new }
+// What the arrival at the top of the heap costs.
+#[tactic(auto, using(heap::proofs::Tables::below_size))]
+fn top<K: Kind>(work: &Work<'_, K>) -> Option<K::Value>
+    requires { 0 < work.now.count }
+    ensures { result ≡ top_cost work.now }
+{
+    let known = work.labels[usize::from(work.slots[0])]?;
+    Some(known.cost)
+}
+
+// What the least open arrival costs, where that is less than the best at the goal.
+#[tactic(auto, using(crate::proofs::Frontiers::none_reached, crate::proofs::Frontiers::top_reached))]
+pub(crate) fn ahead<K: Kind>(
+    kind: &K,
+    work: &Work<'_, K>,
+    goal: &Goal<K::Value>,
+) -> Option<K::Value>
+    ensures reached { IsNone result → IsReached K.ops (labels_of work.now) goal.now }
+    ensures ahead { IfSome result (λ v. (0 < work.now.count) × (top_cost work.now ≡ Some v) × (is_bound K.ops goal.now.best v ≡ false)) }
 {
     if work.count == 0 {
         return None;
     }
-    let arrival = settle(kind, work);
-    let known = work.label(arrival)?;
-    Some((arrival, known.cost))
+    let cost = top(work)?;
+    if is_bound(kind, goal, cost) {
+        return None;
+    }
+    Some(cost)
 }
 
 // Puts an entry into the heap.
@@ -191,13 +209,12 @@ fn add<K: Kind>(kind: &K, work: &mut Work<'_, K>, arrival: Arrival, known: Known
 {
     let Work {
         extent,
-        begun,
         labels,
         slots,
         seats,
         count,
     } = work;
-    table::write(*extent, begun, labels, arrival, Some(known));
+    table::write(*extent, labels, arrival, Some(known));
     let entry = entry_of(*extent, arrival);
     put_in(
         kind,
@@ -216,19 +233,18 @@ fn improve<K: Kind>(kind: &K, work: &mut Work<'_, K>, arrival: Arrival, known: K
     requires inside { IsInside work.old.extent.counts arrival }
     requires known { is_open (labels_of work.old arrival) ≡ true }
     requires unsettled { known.settled ≡ false }
-    requires less { label_at_most K.ops (Some known) (labels_of work.old arrival) ≡ true }
+    requires less { K.ops.at_most known.cost (cost_or K.ops (labels_of work.old arrival)) ≡ true }
     ensures written { Written (labels_of work.old) (labels_of work.new) arrival (Some known) }
     ensures rest { KeepsRest work.old work.new }
 {
     let Work {
         extent,
-        begun,
         labels,
         slots,
         seats,
         count,
     } = work;
-    table::write(*extent, begun, labels, arrival, Some(known));
+    table::write(*extent, labels, arrival, Some(known));
     let entry = entry_of(*extent, arrival);
     move_up(
         kind,
@@ -242,9 +258,8 @@ fn improve<K: Kind>(kind: &K, work: &mut Work<'_, K>, arrival: Arrival, known: K
 }
 
 // Proposes what is known of an arrival by another path: it is taken where the arrival is unknown, or
-// open at a cost that is not at most the proposed one. It stays a call of its own, so that the loop over
-// steps is small: most of them propose nothing, and this takes a twentieth off the time of a query.
-#[inline(never)]
+// open at a cost that is not at most the proposed one.
+#[inline(always)]
 pub(crate) fn propose<K: Kind>(
     kind: &K,
     work: &mut Work<'_, K>,

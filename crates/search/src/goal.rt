@@ -1,45 +1,61 @@
-ghost use Rattle.std.specs.Prelude.{◌≡◌, ◌↔◌, IsTrue};
-ghost use Rattle.search.specs.Goals.{is_at_most, is_bound, is_entered, aimed};
+ghost use Rattle.std.specs.Prelude.{◌≡◌};
+ghost use Rattle.search.specs.Goals.{is_at_most, is_bound, aimed, found_at};
 ghost use Rattle.search.specs.Labels.{IsInside};
 ghost use Rattle.search.specs.Works.{labels_of};
 
 use super::arrival::Arrival;
+use super::found::Found;
 use super::work::Work;
 use cost::kind::Kind;
-use semilightpath::point::Point;
 
-// Where a search is to end, and a bound: an arrival there is known that costs no more. There is none
-// where no arrival there is known. What costs as much already need not be tried.
+// The best arrival at a goal that is known: its channel, and what it costs.
+#[derive(Clone, Copy)]
+pub(crate) struct Best<V> {
+    pub(crate) cost: V,
+    pub(crate) channel: u8,
+}
+
+// Where a search is to end, and the best arrival there, none where none is known. Its cost is a bound:
+// what costs as much already need not be tried.
 #[derive(Clone, Copy)]
 pub(crate) struct Goal<V> {
     pub(crate) node: u8,
-    pub(crate) bound: Option<V>,
+    pub(crate) best: Option<Best<V>>,
 }
 
 impl<V: Copy> Goal<V> {
-    // Whether a point is where the search is to end.
-    pub(crate) fn is_at(&self, point: Point) -> bool
-        ensures { IsTrue result ↔ (point.node ≡ self.now.node) }
-    {
-        point.node == self.node
-    }
-
     // The goal after an arrival has become known at a cost below the bound.
     pub(crate) fn aim(&mut self, arrival: Arrival, cost: V)
         ensures { self.new ≡ aimed self.old arrival cost }
     {
         if arrival.node == self.node {
-            self.bound = Some(cost);
+            let channel = arrival.channel;
+            self.best = Some(Best { cost, channel });
         }
+    }
+
+    // What is found where the best arrival costs no more than any other path.
+    pub(crate) fn found(&self) -> Option<Found<V>>
+        ensures { result ≡ found_at self.now.node self.now.best }
+    {
+        let best = self.best?;
+        let arrival = Arrival {
+            node: self.node,
+            channel: best.channel,
+        };
+        Some(Found {
+            cost: best.cost,
+            end: arrival.point(),
+        })
     }
 }
 
 // Whether the goal is known to be reached at no more than a cost.
 pub(crate) fn is_bound<K: Kind>(kind: &K, goal: &Goal<K::Value>, cost: K::Value) -> bool
-    ensures { result ≡ is_bound K.ops goal.now.bound cost }
+    ensures { result ≡ is_bound K.ops goal.now.best cost }
 {
-    match goal.bound {
-        Some(bound) => kind.at_most(bound, cost),
+    match goal.best {
+        Some(best) => kind.at_most(best.cost, cost),
         None => false,
     }
 }
@@ -55,30 +71,6 @@ pub(crate) fn is_known<K: Kind>(
     ensures { result ≡ is_at_most K.ops (labels_of work.now arrival) cost }
 {
     match work.label_inside(arrival) {
-        Some(known) => kind.at_most(known.cost, cost),
-        None => false,
-    }
-}
-
-// Whether the node of a point is known to be entered on a channel, another than the point's own, at
-// no more than a cost: then what leaves the node on that channel is tried from there.
-pub(crate) fn is_entered<K: Kind>(
-    kind: &K,
-    work: &Work<'_, K>,
-    point: Point,
-    channel: u8,
-    cost: K::Value,
-) -> bool
-    ensures { result ≡ is_entered K.ops (labels_of work.now) point channel cost }
-{
-    let Some(entered) = point.entered else {
-        return false;
-    };
-    if entered == channel {
-        return false;
-    }
-    let node = point.node;
-    match work.label(Arrival { node, channel }) {
         Some(known) => kind.at_most(known.cost, cost),
         None => false,
     }

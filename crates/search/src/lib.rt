@@ -4,6 +4,7 @@
 mod arrival;
 mod cheapest;
 mod costs;
+mod entry;
 pub mod found;
 mod frontier;
 mod goal;

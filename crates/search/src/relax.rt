@@ -1,15 +1,17 @@
-ghost use Rattle.std.specs.Prelude.{◌≡◌, ◌↔◌, IsTrue, IsSome, MatchOption, ⊤};
-ghost use Rattle.network.specs.Net.{net};
+ghost use Rattle.std.specs.Prelude.{◌≡◌, ◌≢◌, ◌<◌, ◌↔◌, false, Some, IsTrue, IsSome, MatchOption, ⊤};
+ghost use Rattle.network.specs.Rows.{span_rate, exit_rate};
 ghost use Rattle.semilightpath.specs.Scenes.{scene};
+ghost use Rattle.search.specs.Goals.{Past};
 ghost use Rattle.search.specs.Works.{labels_of, KeepsRest};
 ghost use Rattle.search.specs.Invariants.{Tries, TriesOn, KeepsSettled};
 ghost use Rattle.search.specs.Labels.{IsInside, arrival_of};
 ghost use Rattle.semilightpath.specs.Paths.{tail_of};
 ghost use Rattle.network.specs.Steps.{Within};
+ghost use Rattle.network.specs.Net.{net};
 
 use super::arrival::Arrival;
 use super::frontier::propose;
-use super::goal::{Goal, is_bound, is_entered, is_known};
+use super::goal::{Goal, is_bound, is_known};
 use super::label::Known;
 use super::work::Work;
 use cost::kind::Kind;
@@ -17,7 +19,8 @@ use network::Network;
 use network::step::Step;
 use semilightpath::fares::Fares;
 use semilightpath::point::Point;
-use semilightpath::step::{can_leave, left};
+
+// All that follows is compiled into one function: with calls between, a query takes a tenth longer.
 
 // Where a path stands, and what it costs so far.
 #[derive(Clone, Copy)]
@@ -47,43 +50,41 @@ fn is_usable<F: Fares>(fares: &F, step: Step) -> bool
     fares.fare(step).is_some()
 }
 
-// What a path costs once it took a step, by what it cost when it had left the node on the step's
-// channel.
-fn crossed<K: Kind, F: Fares>(kind: &K, fares: &F, cost: K::Value, step: Step) -> K::Value
-    ensures { result ≡ K.ops.span cost (F.rate fares.now step) }
-{
-    kind.after_span(cost, fares.rate(step))
-}
-
 // Tries one step from where a path stands, which has left its node on the step's channel at this cost.
+// Tells whether a step there that charges more may be worth a try.
+#[inline(always)]
 fn try_step<K: Kind, F: Fares>(
     kind: &K,
-    network: &Network,
     fares: &F,
     work: &mut Work<'_, K>,
     goal: &mut Goal<K::Value>,
     from: Stand<K::Value>,
     step: Step,
-)
-    requires counts { work.old.extent.counts ≡ (net network.now).counts }
-    requires tail { tail_of (net network.now) step ≡ from.point.node }
-    ensures tries { TriesOn K.ops (scene (net network.now) (F.fare fares.now)) goal.old goal.new (labels_of work.old) (labels_of work.new) from.point from.cost step.channel (λ e. e ≡ step) }
+) -> bool
+    requires counts { work.old.extent.counts ≡ (F.over fares.now).counts }
+    requires tail { tail_of (F.over fares.now) step ≡ from.point.node }
+    ensures tries { TriesOn K.ops (scene (F.over fares.now) (F.fare fares.now)) goal.old goal.new (labels_of work.old) (labels_of work.new) from.point from.cost step.channel (λ e. e ≡ step) }
+    ensures past { result ≡ false → Past K.ops goal.new.best K.ops.span from.cost (span_rate (F.over fares.now) step.channel step.span) }
     ensures settled { KeepsSettled (labels_of work.old) (labels_of work.new) }
     ensures node { goal.new.node ≡ goal.old.node }
     ensures rest { KeepsRest work.old work.new }
 {
-    let cost = crossed(kind, fares, from.cost, step);
+    let network = fares.network();
+    let Some(tariff) = network.tariff(usize::from(step.span), usize::from(step.channel)) else {
+        return false;
+    };
+    let cost = kind.after_span(from.cost, tariff);
     if is_bound(kind, goal, cost) {
-        return;
+        return !kind.grows();
     }
     let Some(arrival) = arrival(network, step) else {
-        return;
+        return true;
     };
     if is_known(kind, work, arrival, cost) {
-        return;
+        return true;
     }
     if !is_usable(fares, step) {
-        return;
+        return true;
     }
     let known = Known {
         cost,
@@ -93,88 +94,144 @@ fn try_step<K: Kind, F: Fares>(
     };
     propose(kind, work, arrival, known);
     goal.aim(arrival, cost);
+    true
 }
 
-// Tries the steps from where a path stands that leave its node on a channel, where it can be left so.
-fn try_channel<K: Kind, F: Fares>(
+// Tries the spans that leave a node, on a channel, from where a path stands that has left the node on
+// that channel at this cost: those that charge less come first.
+#[inline(always)]
+fn try_spans<K: Kind, F: Fares>(
     kind: &K,
-    network: &Network,
     fares: &F,
     work: &mut Work<'_, K>,
     goal: &mut Goal<K::Value>,
     from: Stand<K::Value>,
     channel: u8,
 )
-    requires counts { work.old.extent.counts ≡ (net network.now).counts }
-    ensures tries { Tries K.ops (scene (net network.now) (F.fare fares.now)) goal.old goal.new (labels_of work.old) (labels_of work.new) from.point from.cost (λ e. e.channel ≡ channel) }
+    requires counts { work.old.extent.counts ≡ (F.over fares.now).counts }
+    ensures tries { TriesOn K.ops (scene (F.over fares.now) (F.fare fares.now)) goal.old goal.new (labels_of work.old) (labels_of work.new) from.point from.cost channel (λ e. e.channel ≡ channel) }
+    ensures settled { KeepsSettled (labels_of work.old) (labels_of work.new) }
+    ensures node { goal.new.node ≡ goal.old.node }
+    ensures rest { KeepsRest work.old work.new }
+{
+    let network = fares.network();
+    for span in network.ways(usize::from(from.point.node), usize::from(channel)) {
+        let step = Step {
+            span: u16::from(*span),
+            channel,
+        };
+        if !try_step(kind, fares, work, goal, from, step) {
+            return;
+        }
+    }
+}
+
+// Tries the steps that leave a node on another channel than it was entered on, from where a path
+// stands. Tells whether a channel into which the node converts at more may be worth a try.
+#[inline(always)]
+fn try_exit<K: Kind, F: Fares>(
+    kind: &K,
+    fares: &F,
+    work: &mut Work<'_, K>,
+    goal: &mut Goal<K::Value>,
+    from: Stand<K::Value>,
+    entered: u8,
+    channel: u8,
+) -> bool
+    requires counts { work.old.extent.counts ≡ (F.over fares.now).counts }
+    requires entered { from.point.entered ≡ Some entered }
+    ensures tries { Tries K.ops (scene (F.over fares.now) (F.fare fares.now)) goal.old goal.new (labels_of work.old) (labels_of work.new) from.point from.cost (λ e. (e.channel ≡ channel) × (e.channel ≢ entered)) }
+    ensures past { result ≡ false → Past K.ops goal.new.best K.ops.conversion from.cost (exit_rate (F.over fares.now) from.point.node entered channel) }
     ensures settled { KeepsSettled (labels_of work.old) (labels_of work.new) }
     ensures node { goal.new.node ≡ goal.old.node }
     ensures rest { KeepsRest work.old work.new }
 {
     let point = from.point;
-    let cost = left(kind, network, from.cost, point, channel);
-    if is_bound(kind, goal, cost) {
-        return;
-    }
-    if is_entered(kind, work, point, channel, cost) {
-        return;
-    }
-    if !can_leave(network, point, channel) {
-        return;
-    }
-    try_spans(
-        kind,
-        network,
-        fares,
-        work,
-        goal,
-        Stand { point, cost },
-        channel,
+    let node = point.node;
+    let network = fares.network();
+    let converter = network.converter(
+        usize::from(node),
+        usize::from(entered),
+        usize::from(channel),
     );
+    let Some(tariff) = converter else {
+        return false;
+    };
+    let cost = kind.after_conversion(from.cost, tariff);
+    if is_bound(kind, goal, cost) {
+        return !kind.grows();
+    }
+    if !is_known(kind, work, Arrival { node, channel }, cost) {
+        try_spans(kind, fares, work, goal, Stand { point, cost }, channel);
+    }
+    true
 }
 
-// Tries every span that leaves a node, on a channel, from where a path stands that has left the node
-// on that channel at this cost.
-fn try_spans<K: Kind, F: Fares>(
+// Tries the steps on every channel that a node converts into, from where a path stands that has entered
+// the node on this channel: those into which it converts at less come first.
+#[inline(always)]
+fn try_exits<K: Kind, F: Fares>(
     kind: &K,
-    network: &Network,
     fares: &F,
     work: &mut Work<'_, K>,
     goal: &mut Goal<K::Value>,
     from: Stand<K::Value>,
-    channel: u8,
+    entered: u8,
 )
-    requires counts { work.old.extent.counts ≡ (net network.now).counts }
-    ensures tries { TriesOn K.ops (scene (net network.now) (F.fare fares.now)) goal.old goal.new (labels_of work.old) (labels_of work.new) from.point from.cost channel (λ e. e.channel ≡ channel) }
+    requires counts { work.old.extent.counts ≡ (F.over fares.now).counts }
+    requires entered { from.point.entered ≡ Some entered }
+    ensures tries { Tries K.ops (scene (F.over fares.now) (F.fare fares.now)) goal.old goal.new (labels_of work.old) (labels_of work.new) from.point from.cost (λ e. e.channel ≢ entered) }
     ensures settled { KeepsSettled (labels_of work.old) (labels_of work.new) }
     ensures node { goal.new.node ≡ goal.old.node }
     ensures rest { KeepsRest work.old work.new }
 {
-    for span in network.leaving(usize::from(from.point.node)) {
-        let step = Step {
-            span: *span,
-            channel,
-        };
-        try_step(kind, network, fares, work, goal, from, step);
+    let network = fares.network();
+    for channel in network.exits(usize::from(from.point.node), usize::from(entered)) {
+        if !try_exit(kind, fares, work, goal, from, entered, *channel) {
+            return;
+        }
     }
 }
 
-// Tries every step from where a path stands, on one channel after the other.
+// Tries the steps on every channel from where a path begins.
+fn try_all<K: Kind, F: Fares>(
+    kind: &K,
+    fares: &F,
+    work: &mut Work<'_, K>,
+    goal: &mut Goal<K::Value>,
+    from: Stand<K::Value>,
+)
+    requires counts { work.old.extent.counts ≡ (F.over fares.now).counts }
+    requires begins { from.point.entered ≡ None }
+    ensures tries { Tries K.ops (scene (F.over fares.now) (F.fare fares.now)) goal.old goal.new (labels_of work.old) (labels_of work.new) from.point from.cost (λ e. ⊤) }
+    ensures settled { KeepsSettled (labels_of work.old) (labels_of work.new) }
+    ensures node { goal.new.node ≡ goal.old.node }
+    ensures rest { KeepsRest work.old work.new }
+{
+    for channel in 0..fares.network().counts().channels as u8 {
+        try_spans(kind, fares, work, goal, from, channel);
+    }
+}
+
+// Tries every step from where a path stands.
+#[inline(always)]
 pub(crate) fn try_steps<K: Kind, F: Fares>(
     kind: &K,
-    network: &Network,
     fares: &F,
     work: &mut Work<'_, K>,
     goal: &mut Goal<K::Value>,
     from: Stand<K::Value>,
 )
-    requires counts { work.old.extent.counts ≡ (net network.now).counts }
-    ensures tries { Tries K.ops (scene (net network.now) (F.fare fares.now)) goal.old goal.new (labels_of work.old) (labels_of work.new) from.point from.cost (λ e. ⊤) }
+    requires counts { work.old.extent.counts ≡ (F.over fares.now).counts }
+    ensures tries { Tries K.ops (scene (F.over fares.now) (F.fare fares.now)) goal.old goal.new (labels_of work.old) (labels_of work.new) from.point from.cost (λ e. ⊤) }
     ensures settled { KeepsSettled (labels_of work.old) (labels_of work.new) }
     ensures node { goal.new.node ≡ goal.old.node }
     ensures rest { KeepsRest work.old work.new }
 {
-    for channel in 0..network.counts().channels as u8 {
-        try_channel(kind, network, fares, work, goal, from, channel);
-    }
+    let Some(entered) = from.point.entered else {
+        try_all(kind, fares, work, goal, from);
+        return;
+    };
+    try_spans(kind, fares, work, goal, from, entered);
+    try_exits(kind, fares, work, goal, from, entered);
 }

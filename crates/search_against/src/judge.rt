@@ -56,9 +56,9 @@ fn stands<K: Told>(
     path: &[Step],
     told: K::Value,
 ) -> bool {
-    is_semilightpath(moment.network, moment, from, to, path)
+    is_semilightpath(moment, from, to, path)
         && distinct(path)
-        && K::told(cost(kind, moment.network, moment, path)) == K::told(told)
+        && K::told(cost(kind, moment, path)) == K::told(told)
 }
 
 // What the search answers from one node to another, with its path judged.
@@ -70,7 +70,7 @@ fn ask_one<K: Told>(
     labels: &mut [Label<K::Value>],
     path: &mut [Step],
 ) -> Answer<K::Value> {
-    let found = match search(kind, moment.network, moment, from, to, labels) {
+    let found = match search(kind, moment, from, to, labels) {
         Ok(found) => found,
         Err(BookFault::NoPath) => return Answer::None,
         Err(_) => return Answer::Wrong,

@@ -14,6 +14,7 @@ mod router;
 mod score;
 mod shape;
 mod told;
+mod upside;
 
 use cost::few::Few;
 use cost::sum::Sum;
@@ -29,6 +30,7 @@ use score::Score;
 use shape::Shape;
 use std::alloc::{AllocError, Global};
 use std::io;
+use upside::Upside;
 
 // Asks a network by every kind, at a moment that is drawn.
 fn ask_network(
@@ -59,7 +61,8 @@ fn ask_network(
     };
     ask(&Sum, heap, &moment, ends, score)?;
     ask(&Few, heap, &moment, ends, score)?;
-    ask(&Worst, heap, &moment, ends, score)
+    ask(&Worst, heap, &moment, ends, score)?;
+    ask(&Upside, heap, &moment, ends, score)
 }
 
 // Asks the networks of a group.

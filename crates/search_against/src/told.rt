@@ -1,3 +1,4 @@
+use super::upside::Upside;
 use cost::fee::Fee;
 use cost::few::Few;
 use cost::kind::Kind;
@@ -20,6 +21,12 @@ impl Told for Sum {
 impl Told for Few {
     fn told(value: Tally) -> [u32; 2] {
         [u32::from(value.conversions), value.sum.amount]
+    }
+}
+
+impl Told for Upside {
+    fn told(value: Fee) -> [u32; 2] {
+        [0, value.amount]
     }
 }
 

@@ -20,7 +20,7 @@ fn answer<K: Numbered>(
     for query in queries {
         let from = usize::from(query.from);
         let to = usize::from(query.to);
-        let number = match search(kind, moment.network, moment, from, to, labels) {
+        let number = match search(kind, moment, from, to, labels) {
             Ok(found) => Some(kind.number(found.cost)),
             Err(_) => None,
         };

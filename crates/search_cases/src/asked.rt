@@ -26,7 +26,7 @@ pub(crate) fn cheapest<K: Kind>(
     labels: &mut [Label<K::Value>],
     path: &mut [Step],
 ) -> Option<(K::Value, usize)> {
-    let found = match search(kind, moment.network, moment, from, to, labels) {
+    let found = match search(kind, moment, from, to, labels) {
         Ok(found) => found,
         Err(fault) => {
             assert_eq!(rt; fault, BookFault::NoPath);
@@ -35,12 +35,9 @@ pub(crate) fn cheapest<K: Kind>(
     };
     let count = read_path(moment.network, labels, found.end, path).unwrap_or(0);
     let path = path.get(..count)?;
-    assert!(rt;
-        is_semilightpath(moment.network, moment, from, to, path),
-        "a semilightpath"
-    );
+    assert!(rt; is_semilightpath(moment, from, to, path), "a semilightpath");
     assert!(rt; distinct(path), "no step twice");
-    let cost = cost(kind, moment.network, moment, path);
+    let cost = cost(kind, moment, path);
     assert!(rt;
         kind.at_most(cost, found.cost) && kind.at_most(found.cost, cost),
         "at the cost that is told"

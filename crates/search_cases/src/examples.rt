@@ -120,7 +120,7 @@ fn the_path_itself(rt: HostRuntime) -> Result<(), Fail> {
     let network = load(bytes.as_slice(), &mut tariffs, &mut converters)?;
     let mut labels: [Label<Fee>; 8] = [None; 8];
     let mut path = [on(9, 9); 3];
-    let found = search(&Sum, &network, &all(&network), 0, 3, &mut labels)?;
+    let found = search(&Sum, &all(&network), 0, 3, &mut labels)?;
     let end = Point {
         node: 3,
         entered: Some(1),
@@ -145,7 +145,7 @@ fn the_network_alone(rt: HostRuntime) -> Result<(), Fail> {
     let fares = network;
     let mut labels: [Label<Tally>; 8] = [None; 8];
     let mut path = [on(9, 9); 2];
-    let found = search(&Few, &network, &fares, 0, 3, &mut labels)?;
+    let found = search(&Few, &fares, 0, 3, &mut labels)?;
     let count = read_path(&network, &labels, found.end, &mut path);
     assert_eq!(rt; (found.cost, count), (Tally::new(0, Fee::new(9)), Some(2)));
     assert_eq!(rt; path, [on(2, 0), on(3, 0)]);
@@ -277,7 +277,7 @@ fn refused(
 ) -> Option<BookFault> {
     let mut table = [stale(); 9];
     let labels = table.get_mut(..labels)?;
-    let answer = search(&Worst, network, &all(network), from, to, labels);
+    let answer = search(&Worst, &all(network), from, to, labels);
     assert!(rt; table.iter().all(is_stale), "as they were");
     answer.err()
 }
@@ -312,7 +312,7 @@ fn labels_of_earlier_use(rt: HostRuntime) -> Result<(), Fail> {
     for _ in 0..3 {
         let by_worst = cheapest(&rt, &Worst, &moment, (0, 3), &mut labels, &mut path);
         assert_eq!(rt; by_worst, Some((3, 2)));
-        let back = search(&Worst, &network, &moment, 3, 0, &mut labels);
+        let back = search(&Worst, &moment, 3, 0, &mut labels);
         assert_eq!(rt; back.err(), Some(BookFault::NoPath));
         assert!(rt; labels[8..].iter().all(is_stale), "beyond");
     }

@@ -93,7 +93,7 @@ fn the_widest_way(rt: HostRuntime) -> Result<(), Fail> {
     assert_eq!(rt; costs(&rt, &moment, 0, 0), told(10, (0, 10), 5));
     assert_eq!(rt; costs(&rt, &moment, 63, 1), told(10, (0, 10), 5));
     let mut labels: [Label<Fee>; 1023] = [None; 1023];
-    let answer = search(&Sum, &network, &moment, 0, 0, &mut labels);
+    let answer = search(&Sum, &moment, 0, 0, &mut labels);
     assert_eq!(rt; answer.err(), Some(BookFault::WorkTable));
     Ok(())
 }
