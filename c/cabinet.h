@@ -11,7 +11,7 @@
  *   length behind it says, all of which have been given some value.
  * - What `replies` and `switches` point to overlaps neither each other nor `plan` or `requests`, and nobody
  *   else reads or writes it until the call returns. Nobody writes to `plan` or `requests` until then.
- * - The stack has 192 KB left.
+ * - The stack has 256 KB left.
  * - The numbers in the plan, the requests and the old replies and switches may be any.
  *
  * The library allocates nothing, keeps nothing, and calls memcpy and memset alone. It may be called from
