@@ -1,14 +1,17 @@
 -- A chunk that is taken byte by byte.
-use Rattle.std.proofs.Common.{◌≡◌, ℕ, ◌+◌, ◌<◌, true, false, eqb, List, [], ◌∷◌, ◌++◌, length, get_or, take, sym, refl, ap, subst, subst₂, ◌∙◌, Ok, Err, Result, OnErr, MatchBool}
+use Rattle.std.proofs.Common.{◌≡◌, ℕ, ◌+◌, ◌<◌, true, false, eqb, List, [], ◌∷◌, ◌++◌, length, get_or, take, sym, refl, ap, subst, subst₂, ◌∙◌, Ok, Err, Result, OnOk, OnErr, MatchBool}
 use Rattle.std.proofs.lemmas.List.{append_assoc, take_more}
 use Rattle.std.proofs.lemmas.Result.{on_err_weaker}
+use Rattle.fault.specs.declared.ticket.TicketFault.{TicketFault}
 use Rattle.network.specs.declared.counts.Counts.{Counts}
 use Rattle.network.specs.Net.{Net}
 use Rattle.book.specs.declared.Book.{Book}
 use Rattle.book.specs.State.{Tables, Kept}
+use Rattle.ticket.specs.declared.Ticket.{Ticket}
+use Rattle.ticket.specs.Tickets.{ticket_of}
 use Rattle.desk.specs.Runs.{Rests}
-use Rattle.desk.specs.Serving.{Answered}
-use Rattle.desk.specs.Feeding.{Desk, desk, Turns, Keeps, Takes, Feeds, Ends, Appends, Leaves, InPart}
+use Rattle.desk.specs.Serving.{Served, Answered}
+use Rattle.desk.specs.Feeding.{Desk, desk, Says, Turns, Keeps, Takes, Feeds, Ends, Appends, Leaves, InPart}
 use Rattle.desk.proofs.Runs.{runs_last}
 
 pub kept_then : (a b c : Book) → Kept a b → Kept b c → Kept a c
@@ -26,18 +29,25 @@ pub on_err : {T E P : Type 0} (r : Result T E) → P → OnErr r P
 on_err (Ok v) p = tt
 on_err (Err e) p = p
 
+-- what is said to the ticket that a line is, or to a line that is none, is said to the line
+answered : (w : Net) (n : Counts) (t t' : Tables) (ticket : Result Ticket TicketFault) (line line' said : List ℕ) → ticket ≡ ticket_of line → line ≡ line' → Served w n t ticket said t' → Answered w n t line' said t'
+unfolding Answered
+answered w n t t' ticket line line' said is e a = subst (λ (c : Result Ticket TicketFault). Served w n t c said t') (is ∙ ap ticket_of e) a
+
 -- a line was answered, the reply is written, and another line begins
-pub turned : (w : Net) (n : Counts) (s s' : Desk) (out out' line said : List ℕ) → Answered w n s.tables line said s'.tables → line ≡ s.line → out' ≡ out ++ (said ++ 10 ∷ []) → s'.line ≡ [] → Appends (Turns w n s) out out' s'
-turned w n s s' out out' line said a e o l =
-    let a' = subst (λ (bs : List ℕ). Answered w n s.tables bs said s'.tables) e a in
-    (said ++ 10 ∷ [], record { replied = record { said = said; answered = a'; written = refl }; emptied = l }, o)
+pub turned : {E : Type 0} (w : Net) (n : Counts) (s s' : Desk) (out out' line : List ℕ) (ticket : Result Ticket TicketFault) (r : Result (Unit {0}) E) → r ≡ Ok tt → Says r w n s.tables ticket out out' s'.tables → ticket ≡ ticket_of line → line ≡ s.line → s'.line ≡ [] → Appends (Turns w n s) out out' s'
+turned w n s s' out out' line ticket r ok a is e l = (
+  a.said ++ 10 ∷ [],
+  record { replied = record { said = a.said; answered = answered w n s.tables s'.tables ticket line s.line a.said is e a.served; written = refl }; emptied = l },
+  subst (λ i. OnOk i (out' ≡ out ++ (a.said ++ 10 ∷ []))) ok a.written,
+)
 
 -- the tables where a reply was not written, or in part
 module _ {T E : Type 0} (r : Result T E) (w : Net) (n : Counts) (s : Desk) (t : Tables) where
-  pub turned_then : (line said : List ℕ) → Answered w n s.tables line said t → line ≡ s.line → OnErr r (Leaves (Turns w n s) t)
-  turned_then line said a e =
-      let a' = subst (λ (l : List ℕ). Answered w n s.tables l said t) e a in
-      on_err r (said ++ 10 ∷ [], [], record { replied = record { said = said; answered = a'; written = refl }; emptied = refl })
+  pub turned_then : {F : Type 0} (line out out' : List ℕ) (ticket : Result Ticket TicketFault) (r' : Result (Unit {0}) F) → Says r' w n s.tables ticket out out' t → ticket ≡ ticket_of line → line ≡ s.line → OnErr r (Leaves (Turns w n s) t)
+  turned_then line out out' ticket r' a is e =
+      on_err r
+      (a.said ++ 10 ∷ [], [], record { replied = record { said = a.said; answered = answered w n s.tables t ticket line s.line a.said is e a.served; written = refl }; emptied = refl })
 
   pub taken_then : (b : ℕ) → eqb b 10 ≡ true → OnErr r (Leaves (Turns w n s) t) → OnErr r (Leaves (Takes w n s b) t)
   taken_then b ten =

@@ -1,13 +1,15 @@
 -- What the desk does with the bytes of an input, chunk by chunk.
-use Rattle.std.specs.Prelude.{◌≡◌, ℕ, List, [], ◌∷◌, ◌++◌, length, take, ◌==◌, MatchBool}
+use Rattle.std.specs.Prelude.{◌≡◌, ℕ, List, [], ◌∷◌, ◌++◌, length, take, ◌==◌, MatchBool, Result, OnOk}
+use Rattle.fault.specs.declared.ticket.TicketFault.{TicketFault}
 use Rattle.network.specs.declared.counts.Counts.{Counts}
 use Rattle.network.specs.Net.{Net}
 use Rattle.book.specs.declared.Book.{Book}
 use Rattle.book.specs.State.{Tables, tables}
+use Rattle.ticket.specs.declared.Ticket.{Ticket}
 use Rattle.desk.specs.declared.line.Line.{Line}
 use Rattle.desk.specs.Holding.{kept, held}
 use Rattle.desk.specs.Runs.{Rests, Runs}
-use Rattle.desk.specs.Serving.{Answered}
+use Rattle.desk.specs.Serving.{Answered, Served}
 
 -- what the desk has at a moment: the book's tables, and what is kept of the line that is being read
 pub record Desk : Type 0 where
@@ -20,6 +22,12 @@ desk t line = record { tables = t; line = line }
 -- what the desk has with this book and this line
 abbrev pub desk_of : Book → Line → Desk
 desk_of b l = desk (tables b) (held l)
+
+-- this was said to a ticket, or to a line that is none; where all went well, it was added to a text, with byte 10 behind
+pub record Says {E : Type 0} (r : Result (Unit {0}) E) (w : Net) (n : Counts) (t : Tables) (ticket : Result Ticket TicketFault) (old new : List ℕ) (t' : Tables) : Type 0 where
+  pub said : List ℕ
+  pub served : Served w n t ticket said t'
+  pub written : OnOk r (new ≡ old ++ (said ++ 10 ∷ []))
 
 -- what is written in reply to a line: what is said to it, and byte 10
 pub record Replies (w : Net) (n : Counts) (t : Tables) (line out : List ℕ) (t' : Tables) : Type 0 where

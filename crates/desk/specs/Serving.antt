@@ -1,5 +1,5 @@
 -- What a line asks for, what is said to it, and what it changes.
-use Rattle.std.specs.Prelude.{◌≡◌, ℕ, List, length, Ok, Err, Option, Result}
+use Rattle.std.specs.Prelude.{◌≡◌, ℕ, Bool, true, false, List, length, Ok, Err, Option, Result}
 use Rattle.fault.specs.Judging.{first}
 use Rattle.fault.specs.Reports.{of_ticket, of_book}
 use Rattle.fault.specs.declared.book.BookFault.{BookFault}
@@ -72,6 +72,29 @@ Called w n x (ticket.Slip c) said y = Only (told (first (of_slip n w.counts x c)
 abbrev pub Served : Net → Counts → Tables → Result Ticket TicketFault → List ℕ → Tables → Type 0
 Served w n x (Ok c) said y = Called w n x c said y
 Served w n x (Err f) said y = Only (refusal_text (of_ticket f)) said x y
+
+-- whether a ticket asks for a path to be found
+abbrev pub asks_for_path : Ticket → Bool
+asks_for_path (ticket.Light q) = true
+asks_for_path (ticket.Quote q) = true
+asks_for_path (ticket.Trial q) = true
+asks_for_path (ticket.Dark c) = false
+asks_for_path (ticket.Shut e) = false
+asks_for_path (ticket.Slip c) = false
+
+-- whether it is a ticket that asks for a slip
+abbrev pub asks_for_slip : Result Ticket TicketFault → Bool
+asks_for_slip (Ok (ticket.Light q)) = false
+asks_for_slip (Ok (ticket.Quote q)) = false
+asks_for_slip (Ok (ticket.Trial q)) = false
+asks_for_slip (Ok (ticket.Dark c)) = false
+asks_for_slip (Ok (ticket.Shut e)) = false
+asks_for_slip (Ok (ticket.Slip c)) = true
+asks_for_slip (Err f) = false
+
+-- a slip is given room for as many settings as any can have; nothing else needs any
+abbrev pub RoomFor : Result Ticket TicketFault → ℕ → Type 0
+RoomFor t room = asks_for_slip t ≡ true → room ≡ 1025
 
 -- with tables x before, this is said to a line, and tables y stand then; w is the network, and n the counts that the book was opened for
 unfoldable pub Answered : Net → Counts → Tables → List ℕ → List ℕ → Tables → Type 0

@@ -4,17 +4,16 @@ ghost use Rattle.book.specs.State.{tables, Kept};
 ghost use Rattle.desk.specs.Feeding.{desk_of, Turns, Takes, Feeds, Ends, Appends, Leaves, InPart};
 
 use super::line::Line;
-use super::serving::{SETTINGS, answer};
+use super::replying::reply;
 use book::Book;
 use network::Network;
-use slip::setting::BLANK;
 use std::fmt;
+use ticket::read;
 
 // Book, line and text travel together here. They are no struct: one that is made of three `&mut` in
 // place is not covered, and of one that a function makes the book's last value is not known.
 
 // Answers the line, writes the reply and a byte 10, and begins another line.
-#[tactic(auto, using(crate::proofs::Going::turned, crate::proofs::Going::turned_then))]
 fn end_line(
     network: &Network<'_, '_>,
     book: &mut Book<'_, '_, '_>,
@@ -29,9 +28,7 @@ fn end_line(
         (Turns (net network.now) book.old.extent.counts (desk_of book.old line.old))
         (tables book.new)) }
 {
-    let mut settings = [BLANK; SETTINGS];
-    let reply = answer(network, book, &mut settings, line.bytes());
-    writeln!(out, "{reply}")?;
+    reply(network, book, read(line.bytes()), out)?;
     line.clear();
     Ok(())
 }

@@ -6,4 +6,5 @@ pub mod line;
 mod ordering;
 pub mod refusal;
 pub mod reply;
+mod replying;
 mod serving;

@@ -6,7 +6,7 @@ ghost use Rattle.ticket.specs.Lines.{of_length};
 ghost use Rattle.ticket.specs.Tickets.{ticket_of};
 
 use fault::ticket::TicketFault;
-use words::Words;
+use words::told_by_words;
 
 mod kind;
 mod spot;
@@ -66,5 +66,5 @@ pub fn read(line: &[u8]) -> Result<Ticket, TicketFault>
     if !of_length(line) {
         return Err(TicketFault::Length);
     }
-    Words::cut(line)?.ticket()
+    told_by_words(line)
 }

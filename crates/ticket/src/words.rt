@@ -1,11 +1,11 @@
-ghost use Rattle.std.specs.Prelude.{◌≡◌, ◌≢◌, ◌+◌, ◌*◌, ◌<◌, ◌≤◌, true, false, ◌++◌, map, length, drop, Some, None, IsTrue, MatchResult};
+ghost use Rattle.std.specs.Prelude.{◌≡◌, ◌≢◌, ◌+◌, ◌*◌, ◌<◌, ◌≤◌, true, false, [], ◌++◌, map, length, drop, Some, None, IsTrue, MatchResult};
 ghost use Rattle.std.specs.List.{All};
 ghost use Rattle.fault.specs.Judging.{first};
 ghost use Rattle.fault.specs.declared.ticket.TicketFault.TheVariants as ticket_fault;
 ghost use Rattle.fault.specs.declared.ticket.WordFault.TheVariants as word_fault;
 ghost use Rattle.arrayvec.specs.ArrayVec.{array_vec_len};
-ghost use Rattle.ticket.specs.Lines.{part, small, too_large, token_of, word_from, of_line, words};
-ghost use Rattle.ticket.specs.Tickets.{beyond, kind_of, meaning, nth, number_of, numbers_and_kind, order_of, trial_of};
+ghost use Rattle.ticket.specs.Lines.{part, small, too_large, token_of, word_from, of_line, of_length, words};
+ghost use Rattle.ticket.specs.Tickets.{ticket_of, beyond, kind_of, meaning, nth, number_of, numbers_and_kind, order_of, trial_of};
 
 use super::spot::Spot;
 use super::verb::Verb;
@@ -23,27 +23,38 @@ pub(crate) struct Words<'a> {
     ghost numbers_small: { All (λ w. IsTrue (small (token_of w))) held.items },
 }
 
-impl<'a> Words<'a> {
-    // Cuts a line into words.
-    pub(crate) fn cut(line: &'a [u8]) -> Result<Self, WordFault>
-        requires { length line.now ≤ 80 }
-        ensures { MatchResult result (λ w. (first (of_line line.now) ≡ None) × (w.line.now ≡ line.now) × (map token_of w.held.items ≡ words line.now)) (λ e. first (of_line line.now) ≡ Some e) }
+// What a line of at most 80 bytes says, or the first fault of its words. The words stay where they are
+// made: they take more than a kilobyte, and are not moved.
+pub(crate) fn told_by_words(line: &[u8]) -> Result<Ticket, TicketFault>
+    requires { (of_length line.now ≡ true) × (length line.now ≤ 80) }
+    ensures { result ≡ ticket_of line.now }
+{
+    let mut words = Words {
+        line,
+        held: ArrayVec::new(),
+    };
+    words.cut()?;
+    words.ticket()
+}
+
+impl Words<'_> {
+    // Cuts the line into words, where none is held yet.
+    fn cut(&mut self) -> Result<(), WordFault>
+        requires { self.old.held.items ≡ [] }
+        ensures { MatchResult result (λ _. (first (of_line self.old.line.now) ≡ None) × (self.new.line.now ≡ self.old.line.now) × (map token_of self.new.held.items ≡ words self.old.line.now)) (λ e. first (of_line self.old.line.now) ≡ Some e) }
     {
-        let mut words = Words {
-            line,
-            held: ArrayVec::new(),
-        };
+        let line = self.line;
         let mut start = 0;
         for (i, byte) in line.iter().enumerate() {
             let run_ends = !of_word(*byte);
             if run_ends {
-                words.hold(start, i)?;
+                self.hold(start, i)?;
                 start = i + 1;
             }
             Spot { line, i }.judge()?;
         }
-        words.hold(start, line.len())?;
-        Ok(words)
+        self.hold(start, line.len())?;
+        Ok(())
     }
 
     // Holds the word from `start` on, up to `end`, where there is a byte.

@@ -12,32 +12,32 @@ returns-in_err-hold c =
 pub returns-in_err-judge : goal.returns-in_err-judge
 returns-in_err-judge c =
     let p = err_from_is_err_and c.from_residual-in_err-judge.result c.from_residual-in_err-judge.ensures.1 in
-    let at : IsAt c.args.line.now c.if-run_ends.words c.if-run_ends.start c.loop-i.i =
+    let at : IsAt c.args.self.now.line.now c.if-run_ends.self c.if-run_ends.start c.loop-i.i =
     elim c.if-run_ends.branch [
       | then-run_ends+in_ok-hold w ↦
-          rw (w.words-is, w.start-is) (ends_run _ _ _ _ c.loop-i.invariant _ c.loop-i-test.true (search rules) w.in_ok-hold.ensures.same_line w.in_ok-hold.ensures.room w.in_ok-hold.ensures.held)
-      | else-run_ends w ↦ rw (w.words-is, w.start-is) (goes_on _ _ _ _ c.loop-i.invariant c.loop-i-test.true (search rules))
+          rw (w.self-is, w.start-is) (ends_run _ _ _ _ c.loop-i.invariant _ c.loop-i-test.true (search rules) w.in_ok-hold.ensures.same_line w.in_ok-hold.ensures.room w.in_ok-hold.ensures.held)
+      | else-run_ends w ↦ rw (w.self-is, w.start-is) (goes_on _ _ _ _ c.loop-i.invariant c.loop-i-test.true (search rules))
     ] in
     rw (p.1, p.2) (byte_fault _ _ _ _ at _ c.in_err-judge.ensures)
 
 pub loop-i-preserved : goal.loop-i-preserved
 loop-i-preserved c =
-    let at : IsAt c.args.line.now c.if-run_ends.words c.if-run_ends.start c.loop-i.i =
+    let at : IsAt c.args.self.now.line.now c.if-run_ends.self c.if-run_ends.start c.loop-i.i =
     elim c.if-run_ends.branch [
       | then-run_ends+in_ok-hold w ↦
-          rw (w.words-is, w.start-is) (ends_run _ _ _ _ c.loop-i.invariant _ c.loop-i-test.true (search rules) w.in_ok-hold.ensures.same_line w.in_ok-hold.ensures.room w.in_ok-hold.ensures.held)
-      | else-run_ends w ↦ rw (w.words-is, w.start-is) (goes_on _ _ _ _ c.loop-i.invariant c.loop-i-test.true (search rules))
+          rw (w.self-is, w.start-is) (ends_run _ _ _ _ c.loop-i.invariant _ c.loop-i-test.true (search rules) w.in_ok-hold.ensures.same_line w.in_ok-hold.ensures.room w.in_ok-hold.ensures.held)
+      | else-run_ends w ↦ rw (w.self-is, w.start-is) (goes_on _ _ _ _ c.loop-i.invariant c.loop-i-test.true (search rules))
     ] in
     byte_sound _ _ _ _ at c.in_ok-judge.ensures
 
 pub returns-in_err-hold-2 : goal.returns-in_err-hold-2
 returns-in_err-hold-2 c =
     let p = err_from_is_err_and c.from_residual-in_err-hold-2.result c.from_residual-in_err-hold-2.ensures.1 in
-    let e : c.loop-i.i ≡ length c.args.line.now = search rules in
+    let e : c.loop-i.i ≡ length c.args.self.now.line.now = search rules in
     rw (p.1, p.2) (large_last _ _ _ (rw e at c.loop-i.invariant) _ c.in_err-hold-2.ensures.held)
 
 pub returns : goal.returns
 returns c =
-    let e : c.loop-i.i ≡ length c.args.line.now = search rules in
+    let e : c.loop-i.i ≡ length c.args.self.now.line.now = search rules in
     let cut = rw e at c.loop-i.invariant in
     search (rules, whole)

@@ -2,7 +2,7 @@ use Rattle.std.proofs.Common.{◌≡◌, true, sym, rules}
 use Rattle.std.proofs.lemmas.Result.{err_from_is_err_and}
 use Rattle.ticket.specs.Lines.{of_length}
 use Rattle.ticket.proofs.Reading.{ticket_faulty, ticket_sound}
-use Rattle.ticket.proofs.read.Goals as goal
+use Rattle.ticket.proofs.words.told_by_words.Goals as goal
 
 pub returns-in_err-cut : goal.returns-in_err-cut
 returns-in_err-cut c =
