@@ -1,11 +1,16 @@
-ghost use Rattle.std.specs.Prelude.{length, OnOk};
+ghost use Rattle.std.specs.Prelude.{[], ◌∷◌, ◌++◌, length, OnOk};
+ghost use Rattle.std.specs.Io.KnownBytes.{Appends};
+ghost use Rattle.fault.specs.Reports.{of_load};
 ghost use Rattle.network.specs.Net.{net};
+ghost use Rattle.desk.specs.Replies.{no_plan};
 ghost use Rattle.station.specs.Serving.{Works, Converses};
 
 use super::serving::serve;
 use account::open;
+use arrayvec::ArrayString;
 use book::lent::Lent;
 use desk::reply::PlanRefusal;
+use fault::plan::LoadFault;
 use fault::report::Fault;
 use network::{ABSENT, Network};
 use plan::reader::check;
@@ -13,6 +18,7 @@ use records::channel::Channel;
 use records::circuit::{CIRCUITS, Circuit};
 use records::state::SpanState;
 use std::alloc::Global;
+use std::fmt::Write as _;
 use std::io;
 use std::io::{Read, Write};
 
@@ -22,6 +28,23 @@ const SPANS: usize = 256;
 const SPAN_CHANNELS: usize = 4096;
 
 const CONVERTERS: usize = 16384;
+
+// The longest line on a plan: "PLAN", a number of 8 bits, a place of 64 bits and byte 10.
+const REFUSAL: usize = 30;
+
+// Writes why a plan is refused: one line, and in one write, so that whoever reads it gets it whole. A line
+// that had no room would be written piece by piece.
+fn refuse<W: Write>(fault: LoadFault, output: &mut W) -> io::Result<()>
+    ensures { OnOk result (Appends (W.contents output.old) (W.contents output.new) (no_plan (of_load fault) ++ 10 ∷ [])) }
+{
+    let report = fault.report();
+    let refusal = PlanRefusal { report };
+    let mut line = ArrayString::<REFUSAL>::new();
+    match writeln!(line, "{refusal}") {
+        Ok(()) => output.write_all(line.as_str().as_bytes()),
+        Err(_) => writeln!(output, "{refusal}"),
+    }
+}
 
 // Opens the book of a network and serves.
 fn work<R: Read, W: Write>(
@@ -61,11 +84,7 @@ fn load<R: Read, W: Write>(
         (W.contents output.old) (W.contents output.new)) }
 {
     match check(bytes, tariffs, converters) {
-        Err(fault) => {
-            let report = fault.report();
-            let refusal = PlanRefusal { report };
-            writeln!(output, "{refusal}")
-        }
+        Err(fault) => refuse(fault, output),
         Ok(plan) => {
             plan.load(tariffs, converters);
             let network = plan.network(tariffs, converters);
