@@ -72,13 +72,18 @@ fn mix_spans(network: &Network, digest: u32) -> u32 {
     })
 }
 
+// The converters of a node from a channel.
+fn mix_converters(network: &Network, node: usize, from: usize, digest: u32) -> u32 {
+    (0..network.counts().channels)
+        .map(|to| tariff(network.converter(node, from, to)))
+        .fold(digest, mix)
+}
+
 // The converters of a node.
 fn mix_node(network: &Network, node: usize, digest: u32) -> u32 {
-    let channels = network.counts().channels;
-    (0..channels)
-        .flat_map(|from| (0..channels).map(move |to| (from, to)))
-        .map(|(from, to)| tariff(network.converter(node, from, to)))
-        .fold(digest, mix)
+    (0..network.counts().channels).fold(digest, |digest, from| {
+        mix_converters(network, node, from, digest)
+    })
 }
 
 // A digest of all that a network tells.
@@ -87,9 +92,16 @@ fn digest_of(network: &Network) -> u32 {
     (0..network.counts().nodes).fold(digest, |digest, node| mix_node(network, node, digest))
 }
 
-// How many entries were left alone.
+// How many entries were left alone. Counted so, the loop takes many entries at once, which it does not
+// where they are filtered first.
 fn stale(table: &[u16]) -> usize {
-    table.iter().filter(|entry| **entry == STALE).count()
+    table.iter().fold(0usize, |count, entry| {
+        if *entry == STALE {
+            count.saturating_add(1)
+        } else {
+            count
+        }
+    })
 }
 
 // Prints the refusal of a plan, or what its network tells.
