@@ -33,7 +33,7 @@ fn write_reply(
 // The same with room for any slip. The room is a table of some size, so it stands in a function of its
 // own, which no other ticket comes to.
 #[inline(never)]
-fn write_slip(
+fn write_slip_reply(
     network: &Network<'_, '_>,
     book: &mut Book<'_, '_, '_>,
     ticket: Result<Ticket, TicketFault>,
@@ -59,7 +59,7 @@ pub(crate) fn reply(
         (string_bytes out.old) (string_bytes out.new) (tables book.new) }
 {
     if asks_for_slip(ticket) {
-        return write_slip(network, book, ticket, out);
+        return write_slip_reply(network, book, ticket, out);
     }
     write_reply(network, book, &mut [], ticket, out)
 }

@@ -32,8 +32,8 @@ const CONVERTERS: usize = 16384;
 // The longest line on a plan: "PLAN", a number of 8 bits, a place of 64 bits and byte 10.
 const REFUSAL: usize = 30;
 
-// Writes why a plan is refused: one line, and in one write, so that whoever reads it gets it whole. A line
-// that had no room would be written piece by piece.
+// Writes why a plan is refused: one line, which the writer is asked for at once. A line that had no room
+// would be written piece by piece.
 fn refuse<W: Write>(fault: LoadFault, output: &mut W) -> io::Result<()>
     ensures { OnOk result (Appends (W.contents output.old) (W.contents output.new) (no_plan (of_load fault) ++ 10 ∷ [])) }
 {
@@ -120,7 +120,27 @@ pub fn converse<R: Read, W: Write>(
 #[cfg(test)]
 mod tests {
     use super::converse;
+    use std::io::{Result as IoResult, Write};
     use std::test::Fail;
+
+    // A writer that takes all that it is asked to write, and counts how often it is asked.
+    #[derive(Drop)]
+    struct Counted {
+        writes: usize,
+        length: usize,
+    }
+
+    impl Write for Counted {
+        fn write(&mut self, buf: &[u8]) -> IoResult<usize> {
+            self.writes = self.writes.saturating_add(1);
+            self.length = self.length.saturating_add(buf.len());
+            Ok(buf.len())
+        }
+
+        fn flush(&mut self) -> IoResult<()> {
+            Ok(())
+        }
+    }
 
     // The plan of the sample network: 4 nodes, 2 channels, 4 spans, 1 converter.
     const SAMPLE: [u8; 73] = [
@@ -149,6 +169,35 @@ mod tests {
         converse(rt.alloc(), &[], &mut input, &mut output)?;
         assert_eq!(rt; output.as_slice(), b"PLAN 1 0\n".as_slice());
         assert_eq!(rt; input, b"DARK 1\n".as_slice());
+        Ok(())
+    }
+
+    // How many writes a refused plan takes, and how many bytes they are.
+    fn refused(rt: &HostRuntime, plan: &[u8]) -> Result<(usize, usize), Fail> {
+        let mut input = b"DARK 1\n".as_slice();
+        let mut output = Counted {
+            writes: 0,
+            length: 0,
+        };
+        converse(rt.alloc(), plan, &mut input, &mut output)?;
+        Ok((output.writes, output.length))
+    }
+
+    #[test]
+    fn the_shortest_refusal_is_one_write(rt: HostRuntime) -> Result<(), Fail> {
+        assert_eq!(rt; refused(&rt, &[])?, (1, b"PLAN 1 0\n".len()));
+        Ok(())
+    }
+
+    // The largest plan, whose one converter is its last five bytes and changes a channel into itself.
+    #[test]
+    fn the_longest_refusal_is_one_write(rt: HostRuntime) -> Result<(), Fail> {
+        let mut plan = vec![in rt.alloc(); 0u8; 65536]?;
+        let bytes = plan.as_mut_slice();
+        bytes[..73].copy_from_slice(&SAMPLE);
+        bytes[32..36].copy_from_slice(&[0, 0, 255, 251]);
+        let asked = refused(&rt, plan.as_slice())?;
+        assert_eq!(rt; asked, (1, b"PLAN 9 65531\n".len()));
         Ok(())
     }
 }
